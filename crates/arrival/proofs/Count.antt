@@ -9,6 +9,7 @@ use native.Mathlib.Omega.{arith}
 use lib.Dec.{eqb, ltb}
 use lib.ListN.{length}
 use borrow.Author.Tests.{lt-ltb, ltb-true, ne_eqb}
+use Rattle.std.specs.Prelude.{Ok}
 use Rattle.laws.specs.Sets.{Set, none, add, size}
 use Rattle.laws.proofs.Tests.{split, eqb_same}
 use Rattle.laws.proofs.Laws.{add_idle, size_none, size_lt, size_add, size_some}
@@ -20,7 +21,6 @@ use Rattle.transfer.specs.declared.Kind.TheVariants.{Flash}
 use Rattle.transfer.specs.declared.Head.{Head}
 use Rattle.transfer.specs.declared.State.{State}
 use Rattle.transfer.specs.declared.State.TheVariants.{Done}
-use Rattle.transfer.specs.declared.Step.TheVariants.{Accepts}
 use Rattle.transfer.specs.declared.Answer.{Answer}
 use Rattle.transfer.specs.declared.Answer.TheVariants.{Finished, Again}
 use Rattle.transfer.specs.declared.Deed.{Deed}
@@ -95,7 +95,7 @@ Any f = Unit {0}
 -- each block of the file, coming first, opens a transfer (and discards one, or not)
 pub record Opens (F : Blocks) (w : World) (d : Bool) : Type 0 where
   pub sized : length w.seen ≡ 16384
-  pub opens : (marked : Bool) (e : Deed) → step_of w.transfer (head_by F) marked e ≡ Accepts (accepted e true d (head_by F) 1)
+  pub opens : (marked : Bool) (e : Deed) → step_of w.transfer (head_by F) marked e ≡ Ok (accepted e true d (head_by F) 1)
 
 -- the world v, once the blocks of S have come to w
 pub data After (F : Blocks) (w : World) (Inv : Set → Held → Type 0) (S : Set) (v : World) : Type 0 where

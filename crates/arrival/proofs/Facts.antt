@@ -6,6 +6,7 @@ use mathlib.Core.Bool.{Bool, true, false}
 use mathlib.Core.List.{List}
 use native.Mathlib.Omega.{arith}
 use lib.ListN.{length, get_or, length-set}
+use Rattle.std.specs.Prelude.{Option, Some, None}
 use Rattle.memory.proofs.bitmap.Laws.{length_mark, length_unmarked}
 use Rattle.uf2_block.specs.Block.{field_at}
 use Rattle.uf2_block.proofs.Laws.{field_set, header_flags, region_set, flag_comment, flag_beside}
@@ -14,7 +15,6 @@ use Rattle.memory.proofs.flash.Laws.{payload_set}
 use Rattle.partitions.specs.declared.Settings.{Settings}
 use Rattle.placement.specs.Place.{place_of}
 use Rattle.placement.specs.declared.Place.{Place}
-use Rattle.placement.specs.declared.Place.TheVariants.{Nowhere, At}
 use Rattle.transfer.specs.declared.Kind.{Kind}
 use Rattle.transfer.specs.declared.Kind.TheVariants.{Flash, MainRam, XipRam}
 use Rattle.transfer.specs.declared.State.{State}
@@ -115,10 +115,10 @@ kind_flags w a x m =
     comment (Done g) = refl
 
 -- nor does flag 0x8000 tell what stands
-stands_flag : (f : List ℕ) (p : Place) (a : List ℕ) (x : ℕ) → x % 0x80 ≡ 0 → stands_at f p (flagged x a) ≡ stands_at f p a
+stands_flag : (f : List ℕ) (p : Option Place) (a : List ℕ) (x : ℕ) → x % 0x80 ≡ 0 → stands_at f p (flagged x a) ≡ stands_at f p a
 unfolding stands_at
-stands_flag f Nowhere a x m = refl
-stands_flag f (At start size) a x m =
+stands_flag f None a x m = refl
+stands_flag f (Some p) a x m =
     rw (flag_beside a x m, field_set a 9 (get_or a 9 0 + x) 12 (inr (omega arith)), region_set a 9 (get_or a 9 0 + x) (omega arith))
 
 standing_flag : (s : Settings) (f : List ℕ) (a : List ℕ) (x : ℕ) → x % 0x80 ≡ 0 → standing s f (flagged x a) ≡ standing s f a

@@ -4,6 +4,7 @@ use mathlib.Core.Path.{◌≡◌, refl}
 use mathlib.Core.Bool.{Bool, true, false, ◌&&◌}
 use mathlib.Core.List.{List}
 use lib.ListN.{length}
+use Rattle.std.specs.Prelude.{Option, Some, None}
 use Rattle.laws.proofs.Tests.{clash, and_left, and_right}
 use Rattle.uf2_block.specs.Block.{field_at, has_flag}
 use Rattle.uf2_block.specs.Region.{region_of}
@@ -13,7 +14,6 @@ use Rattle.uf2_block.proofs.regions.Laws.{good_true, stands_true, digest_true}
 use Rattle.partitions.specs.declared.Settings.{Settings}
 use Rattle.placement.specs.Place.{place_of}
 use Rattle.placement.specs.declared.Place.{Place}
-use Rattle.placement.specs.declared.Place.TheVariants.{Nowhere, At}
 use Rattle.transfer.specs.Transfer.{same_kind}
 use Rattle.transfer.specs.declared.Kind.TheVariants.{Flash}
 use Rattle.arrival.specs.Arrive.{World, stands_at, standing}
@@ -26,22 +26,22 @@ abbrev pub keeps_at : Settings → World → List ℕ → Bool
 keeps_at s w a = same_kind (kind_of w a) Flash && standing s w.held.flash a
 
 module _ (s : Settings) (w : World) (a : List ℕ) where
-  facts_at : (p : Place) → place_of s (length w.held.flash) (field_at a 28) ≡ p → has_flag a 0x1 ≡ false → kind_of w a ≡ Flash
+  facts_at : (p : Option Place) → place_of s (length w.held.flash) (field_at a 28) ≡ p → has_flag a 0x1 ≡ false → kind_of w a ≡ Flash
       → stands_at w.held.flash p a ≡ true → Standing s w a
   unfolding stands_at region_of
-  facts_at Nowhere e z k h = clash false h refl
-  facts_at (At start size) e z k h =
+  facts_at None e z k h = clash false h refl
+  facts_at (Some p) e z k h =
       let f = has_flag a 0x4000 in
-      let b = good_region size (field_at a 12) (region_of a) in
-      let t = stands_in w.held.flash start (region_of a) in
+      let b = good_region p.len (field_at a 12) (region_of a) in
+      let t = stands_in w.held.flash p.start (region_of a) in
       let g = and_left (f && b) t h in
-      let c = good_true size (field_at a 12) (region_of a) (and_right f b g) in
+      let c = good_true p.len (field_at a 12) (region_of a) (and_right f b g) in
       record {
         data_block = z;
         flash = k;
         flag = and_left f b g;
-        start = start;
-        size = size;
+        start = p.start;
+        size = p.len;
         place = e;
         first = c.starts;
         whole = c.ends;
@@ -50,7 +50,7 @@ module _ (s : Settings) (w : World) (a : List ℕ) where
         within = c.within;
         before = c.before;
         behind = c.behind;
-        digest = digest_true (md5_of (part_of w.held.flash start (region_of a))) (region_of a) (stands_true w.held.flash start (region_of a) (and_right (f && b) t h));
+        digest = digest_true (md5_of (part_of w.held.flash p.start (region_of a))) (region_of a) (stands_true w.held.flash p.start (region_of a) (and_right (f && b) t h));
       }
 
   pub standing_of : has_flag a 0x1 ≡ false → keeps_at s w a ≡ true → Standing s w a

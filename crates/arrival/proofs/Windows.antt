@@ -6,15 +6,14 @@ use mathlib.Core.List.{List}
 use native.Mathlib.Omega.{arith}
 use lib.Dec.{eqb, ltb, leb}
 use borrow.Author.Tests.{le-leb, lt-leb, lt-ltb, leb-true, ltb-true}
+use Rattle.std.specs.Prelude.{Some, None}
 use Rattle.laws.proofs.Tests.{and_left, and_right}
 use Rattle.uf2_block.specs.Block.{field_at, fields_of}
 use Rattle.transfer.specs.declared.Kind.{Kind}
 use Rattle.transfer.specs.declared.Kind.TheVariants.{Flash, MainRam, XipRam}
 use Rattle.transfer.specs.declared.State.{State}
 use Rattle.transfer.specs.declared.State.TheVariants.{Idle, Running, Done}
-use Rattle.uf2_checks.specs.Screen.{base_of, extent_of, is_lent, in_window, note_kind, window_kind}
-use Rattle.uf2_checks.specs.declared.Window.{Window}
-use Rattle.uf2_checks.specs.declared.Window.TheVariants.{Outside, In}
+use Rattle.uf2_checks.specs.Screen.{base_of, extent_of, is_lent, in_window, note_kind, window_kind, Window}
 use Rattle.uf2_checks.proofs.Windows.{InWindow, WindowFacts}
 use Rattle.arrival.specs.Arrive.{World, lengths_of}
 use Rattle.arrival.specs.Windows.{window_start, window_end, lies, has_buffer, data_kind, comment_kind}
@@ -83,8 +82,8 @@ module _ (w : World) where
     Kinded u = data_kind w x ≡ window_kind u
 
     pub data_window : (u : Window) → WindowFacts (lengths_of w.held) x u → Kinded u
-    data_window Outside f = data_outside f
-    data_window (In k) f = data_kind_lem k f
+    data_window None f = data_outside f
+    data_window (Some k) f = data_kind_lem k f
 
   -- a comment's kind; flash's buffer is not asked for
   module _ (a : List ℕ) where

@@ -1,5 +1,5 @@
 -- One arrival (01, "One arrival, checks in this order"): what decides, and what is done. Assumes nothing.
-use Rattle.std.specs.Prelude.{ℕ, ◌/◌, Bool, false, ◌&&◌, ◌||◌, not, cond, List, eqb, length}
+use Rattle.std.specs.Prelude.{ℕ, ◌/◌, Bool, false, ◌&&◌, ◌||◌, not, cond, List, eqb, length, Option, Some, None, Ok, Err}
 use Rattle.memory.specs.Bitmap.{marked_in, with_mark, unmarked}
 use Rattle.memory.specs.Flash.{flash_length, erase_at, payload_of, store_at}
 use Rattle.uf2_block.specs.Block.{field_at, has_flag}
@@ -9,25 +9,20 @@ use Rattle.partitions.specs.Settings.{good_settings}
 use Rattle.partitions.specs.declared.Settings.{Settings}
 use Rattle.placement.specs.Place.{place_of}
 use Rattle.placement.specs.declared.Place.{Place}
-use Rattle.placement.specs.declared.Place.TheVariants.{Nowhere, At}
-use Rattle.transfer.specs.Transfer.{same_kind, number_of, good_state, step_of}
+use Rattle.transfer.specs.Transfer.{same_kind, number_of, good_state, step_of, Step}
 use Rattle.transfer.specs.declared.Kind.{Kind}
 use Rattle.transfer.specs.declared.Kind.TheVariants.{Flash, MainRam, XipRam}
 use Rattle.transfer.specs.declared.State.{State}
 use Rattle.transfer.specs.declared.Deed.{Deed}
 use Rattle.transfer.specs.declared.Deed.TheVariants.{Stores, Notes, Keeps}
 use Rattle.transfer.specs.declared.Accepted.{Accepted}
-use Rattle.transfer.specs.declared.Step.{Step}
-use Rattle.transfer.specs.declared.Step.TheVariants.{Stays, Accepts}
 use Rattle.transfer.specs.declared.Answer.{Answer}
 use Rattle.transfer.specs.declared.Answer.TheVariants.{BadBuffers, BadSettings, BadState}
-use Rattle.uf2_checks.specs.Screen.{extent_of, screen_of}
+use Rattle.uf2_checks.specs.Screen.{extent_of, screen_of, Screening}
 use Rattle.uf2_checks.specs.declared.Lengths.{Lengths}
 use Rattle.uf2_checks.specs.declared.Body.{Body}
 use Rattle.uf2_checks.specs.declared.Body.TheVariants.{Page, Note}
 use Rattle.uf2_checks.specs.declared.PlacedBlock.{PlacedBlock}
-use Rattle.uf2_checks.specs.declared.Screening.{Screening}
-use Rattle.uf2_checks.specs.declared.Screening.TheVariants.{Refused, Passed}
 
 -- what a stored page changes: the flash and the sector map, or a buffer of RAM (02, L8)
 pub record Held : Type 0 where
@@ -99,9 +94,9 @@ right_lengths a n m k =
 
 -- what an arrival would store in a place of the flash stands there: flag 0x4000, and "the region is whole sectors, not empty, within the place and
 -- around the block, and flash there has that digest" (02, L9)
-unfoldable pub stands_at : List ℕ → Place → List ℕ → Bool
-stands_at flash Nowhere a = false
-stands_at flash (At start size) a = has_flag a 0x4000 && good_region size (field_at a 12) (region_of a) && stands_in flash start (region_of a)
+unfoldable pub stands_at : List ℕ → Option Place → List ℕ → Bool
+stands_at flash None a = false
+stands_at flash (Some p) a = has_flag a 0x4000 && good_region p.len (field_at a 12) (region_of a) && stands_in flash p.start (region_of a)
 
 -- in the place of its family
 abbrev pub standing : Settings → List ℕ → List ℕ → Bool
@@ -118,13 +113,13 @@ deed_of kept p = body_deed (same_kind p.head.kind Flash && kept) p.body
 
 -- a block that passed the screening changes nothing, by 12 or 13, or is accepted
 abbrev pub stepped : PlacedBlock → Deed → Step → Decision
-stepped p d (Stays x) = stays x.answer
-stepped p d (Accepts t) = accepts p d t
+stepped p d (Err x) = stays x.answer
+stepped p d (Ok t) = accepts p d t
 
 -- rows 12 to 15 (and 16, 17), of what the screening gives
 unfoldable pub after_screening : State → List ℕ → Bool → Screening → Decision
-after_screening t seen kept (Refused x) = stays x
-after_screening t seen kept (Passed p) =
+after_screening t seen kept (Err x) = stays x
+after_screening t seen kept (Ok p) =
     stepped p (deed_of kept p) (step_of t p.head (marked_in seen p.number) (deed_of kept p))
 
 -- every row, for buffers of lengths n and a sector map of k bytes, where what the arrival would store in the flash stands there or not

@@ -1,13 +1,11 @@
 -- A file of blocks, and where a kind's window starts in its buffer: the words in which one arrival and lists of them are spoken of.
 -- Assumes nothing.
-use Rattle.std.specs.Prelude.{ℕ, Bool, true, false, not, List, length}
-use Rattle.uf2_block.specs.Block.{has_flag}
-use Rattle.uf2_block.specs.declared.Header.{Header}
-use Rattle.uf2_block.specs.declared.Header.TheVariants as header
+use Rattle.std.specs.Prelude.{ℕ, Bool, true, false, not, List, length, Option, Some, None, Ok, Err}
+use Rattle.uf2_block.specs.Block.{has_flag, Header}
+use Rattle.uf2_block.specs.declared.HeaderError.TheVariants as header
 use Rattle.partitions.specs.declared.Settings.{Settings}
 use Rattle.placement.specs.Place.{place_of}
 use Rattle.placement.specs.declared.Place.{Place}
-use Rattle.placement.specs.declared.Place.TheVariants.{Nowhere, At}
 use Rattle.transfer.specs.Transfer.{head_with}
 use Rattle.transfer.specs.declared.Kind.{Kind}
 use Rattle.transfer.specs.declared.Kind.TheVariants.{Flash, MainRam, XipRam}
@@ -31,15 +29,15 @@ head_in F = head_with F.kind F.family F.total
 
 -- the header yields a block
 abbrev pub is_found : Header → Bool
-is_found header.NotBlock = false
-is_found header.Container = false
-is_found header.NoFamily = false
-is_found (header.Found b) = true
+is_found (Err header.NotBlock) = false
+is_found (Err header.Container) = false
+is_found (Err header.NoFamily) = false
+is_found (Ok b) = true
 
 -- where a place starts
-abbrev pub start_of : Place → ℕ
-start_of Nowhere = 0
-start_of (At start size) = start
+abbrev pub start_of : Option Place → ℕ
+start_of None = 0
+start_of (Some p) = p.start
 
 -- what a kind's window starts at in its buffer: flash's at the start of the family's place, RAM's at 0
 abbrev pub origin_of : Settings → World → Kind → ℕ → ℕ

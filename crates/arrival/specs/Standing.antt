@@ -1,11 +1,10 @@
 -- When what an arrival would store stands in the flash (02, L9: "Don't rewrite what is there."). Assumes nothing.
-use Rattle.std.specs.Prelude.{ℕ, ◌+◌, ◌-◌, ◌%◌, ◌≤◌, ◌≡◌, ◌≢◌, true, false, List, length, take, drop}
+use Rattle.std.specs.Prelude.{ℕ, ◌+◌, ◌-◌, ◌%◌, ◌≤◌, ◌≡◌, ◌≢◌, true, false, List, length, take, drop, Some}
 use Rattle.uf2_block.specs.Block.{field_at, has_flag}
 use Rattle.md5_digest.specs.Md5.{md5_of}
 use Rattle.md5_digest.specs.declared.Digest.{Digest}
 use Rattle.partitions.specs.declared.Settings.{Settings}
-use Rattle.placement.specs.Place.{place_of}
-use Rattle.placement.specs.declared.Place.TheVariants.{At}
+use Rattle.placement.specs.Place.{place_of, place_from}
 use Rattle.transfer.specs.declared.Kind.TheVariants.{Flash}
 use Rattle.arrival.specs.Arrive.{World}
 use Rattle.arrival.specs.Windows.{kind_of}
@@ -22,7 +21,7 @@ pub record Standing (s : Settings) (w : World) (a : List ℕ) : Type 0 where
   pub flag : has_flag a 0x4000 ≡ true
   pub start : ℕ
   pub size : ℕ
-  pub place : place_of s (length w.held.flash) (field_at a 28) ≡ At start size
+  pub place : place_of s (length w.held.flash) (field_at a 28) ≡ Some (place_from start size)
   pub first : field_at a 484 % 4096 ≡ 0
   pub whole : field_at a 488 % 4096 ≡ 0
   pub some : field_at a 488 ≢ 0

@@ -7,18 +7,17 @@ use native.Mathlib.Omega.{arith}
 use lib.Dec.{eqb, ltb}
 use lib.ListN.{length}
 use borrow.Author.Tests.{ne_eqb}
+use Rattle.std.specs.Prelude.{Option, Some, None, Ok, Err}
 use Rattle.laws.proofs.Tests.{split, clash}
 use Rattle.memory.specs.Bitmap.{marked_in}
-use Rattle.uf2_block.specs.Block.{field_at, has_flag, fields_of, header_of}
+use Rattle.uf2_block.specs.Block.{field_at, has_flag, fields_of, header_of, Header}
 use Rattle.uf2_block.specs.declared.Block.{Block}
-use Rattle.uf2_block.specs.declared.Header.{Header}
-use Rattle.uf2_block.specs.declared.Header.TheVariants as header
+use Rattle.uf2_block.specs.declared.HeaderError.TheVariants as header
 use Rattle.memory.specs.Flash.{flash_length, payload_of}
 use Rattle.partitions.specs.Settings.{good_settings}
 use Rattle.partitions.specs.declared.Settings.{Settings}
 use Rattle.placement.specs.Place.{place_of}
 use Rattle.placement.specs.declared.Place.{Place}
-use Rattle.placement.specs.declared.Place.TheVariants.{Nowhere, At}
 use Rattle.transfer.specs.Transfer.{number_of, good_state, counted, step_of}
 use Rattle.transfer.specs.declared.Kind.{Kind}
 use Rattle.transfer.specs.declared.Kind.TheVariants.{Flash, MainRam, XipRam}
@@ -27,15 +26,11 @@ use Rattle.transfer.specs.declared.State.{State}
 use Rattle.transfer.specs.declared.State.TheVariants.{Idle, Running, Done}
 use Rattle.transfer.specs.declared.Answer.{Answer}
 use Rattle.transfer.specs.declared.Answer.TheVariants.{BadBuffers, BadSettings, BadState, BadAddress}
-use Rattle.uf2_checks.specs.Screen.{is_lent, window_of, note_kind, rooms_of, room_in, bad_numbers, bad_address, placed, strayed, noted, window_kind, data_found, note_found, found, after_header, screen_in, screen_of, screening_number}
+use Rattle.uf2_checks.specs.Screen.{is_lent, window_of, note_kind, rooms_of, room_in, bad_numbers, bad_address, placed, strayed, noted, window_kind, data_found, note_found, found, after_header, screen_in, screen_of, screening_number, Screening, Window}
 use Rattle.uf2_checks.proofs.Laws.{found_comment, found_data}
 use Rattle.uf2_checks.proofs.Windows.{InWindow, WindowFacts, window_facts, outside_bad}
 use Rattle.uf2_checks.specs.declared.Lengths.{Lengths}
 use Rattle.uf2_checks.specs.declared.Rooms.{Rooms}
-use Rattle.uf2_checks.specs.declared.Window.{Window}
-use Rattle.uf2_checks.specs.declared.Window.TheVariants.{Outside, In}
-use Rattle.uf2_checks.specs.declared.Screening.{Screening}
-use Rattle.uf2_checks.specs.declared.Screening.TheVariants.{Refused, Passed}
 use Rattle.arrival.specs.Arrive.{World, Decision, stays, outcome_number, right_lengths, standing, deed_of, stepped, after_screening, decide, decided, accept_of, unchanged, done, receive_of}
 use Rattle.arrival.specs.Windows.{lies, kind_of}
 use Rattle.arrival_claims.specs.Before.{placed_before, noted_before, found_before, screen_before, decide_before, receive_before, InFlash, strays, WithoutRam, StaysInFlash}
@@ -47,7 +42,7 @@ use Rattle.arrival_claims.proofs.DecisionFacts.{right_true, step_late, DecisionF
 
 -- what changed, of a screening x of a data block or not, in a window or not
 abbrev turned : Bool → Bool → Screening → Screening
-turned comment inside x = cond (not comment && not inside && eqb (screening_number x) 10) (Refused BadAddress) x
+turned comment inside x = cond (not comment && not inside && eqb (screening_number x) 10) (Err BadAddress) x
 
 turned_comment : (i : Bool) (x : Screening) → turned true i x ≡ x
 turned_comment i x = refl
@@ -76,21 +71,21 @@ module _ (n : Lengths) (m : n.main ≡ 0) (p : n.xip ≡ 0) where
   note_flash (Done g) b f = refl
 
 -- a comment
-note_before : (q : Place) (b : Block) → b.comment ≡ true → note_found Flash q b ≡ found_before q b
+note_before : (q : Option Place) (b : Block) → b.comment ≡ true → note_found Flash q b ≡ found_before q b
 unfolding note_found found_before noted noted_before
-note_before Nowhere b y = refl
-note_before (At start size) b y = ap (λ (c : Bool). cond c (noted_before size b) (placed_before start size b)) (sym y)
+note_before None b y = refl
+note_before (Some p) b y = ap (λ (c : Bool). cond c (noted_before p.len b) (placed_before p.start p.len b)) (sym y)
 
 -- data in the window
-data_before : (q : Place) (b : Block) → b.comment ≡ false → data_found (In Flash) q b ≡ found_before q b
+data_before : (q : Option Place) (b : Block) → b.comment ≡ false → data_found (Some Flash) q b ≡ found_before q b
 unfolding data_found found_before placed placed_before
-data_before Nowhere b z = refl
-data_before (At start size) b z = ap (λ (c : Bool). cond c (noted_before size b) (placed_before start size b)) (sym z)
+data_before None b z = refl
+data_before (Some p) b z = ap (λ (c : Bool). cond c (noted_before p.len b) (placed_before p.start p.len b)) (sym z)
 
 -- data in no window, beside a place of at most 32 MiB
-abbrev Small : Place → Type 0
-Small Nowhere = Unit {0}
-Small (At start size) = size ≤ 0x2000000
+abbrev Small : Option Place → Type 0
+Small None = Unit {0}
+Small (Some p) = p.len ≤ 0x2000000
 
 stray_placed : (start size : ℕ) (b : Block) → bad_address Flash size b ≡ true → strayed b ≡ turned false false (placed_before start size b)
 unfolding strayed placed_before
@@ -99,34 +94,34 @@ stray_placed start size b e =
     (λ y. rw y)
     (λ z. rw z (split (bad_numbers size b) (λ y. rw y) (λ f. rw (f, e))))
 
-stray_before : (n : Lengths) (q : Place) (b : Block) → Small q → window_of n b.address ≡ Outside → b.comment ≡ false
-    → data_found Outside q b ≡ turned false false (found_before q b)
+stray_before : (n : Lengths) (q : Option Place) (b : Block) → Small q → window_of n b.address ≡ None → b.comment ≡ false
+    → data_found None q b ≡ turned false false (found_before q b)
 unfolding data_found found_before
-stray_before n Nowhere b l e z = refl
-stray_before n (At start size) b l e z =
-    stray_placed start size b (outside_bad n size b e l)
-    ∙ ap (λ (c : Bool). turned false false (cond c (noted_before size b) (placed_before start size b))) (sym z)
+stray_before n None b l e z = refl
+stray_before n (Some p) b l e z =
+    stray_placed p.start p.len b (outside_bad n p.len b e l)
+    ∙ ap (λ (c : Bool). turned false false (cond c (noted_before p.len b) (placed_before p.start p.len b))) (sym z)
 
 module _ (s : Settings) (w : World) (a : List ℕ) (m : length w.held.main ≡ 0) (p : length w.held.xip ≡ 0) (f : InFlash w.transfer) (B : Board s w) where
-  abbrev here : Place
+  abbrev here : Option Place
   here = place_of s (flash_of w) (field_at a 28)
 
-  small : (q : Place) → here ≡ q → Small q
-  small Nowhere e = tt
-  small (At start size) e = omega (arith, (room_of s w B (field_at a 28) Flash start size e refl).most)
+  small : (q : Option Place) → here ≡ q → Small q
+  small None e = tt
+  small (Some p) e = omega (arith, (room_of s w B (field_at a 28) Flash p.start p.len e refl).most)
 
   abbrev rooms : Rooms
   rooms = rooms_of s (flash_of w) (field_at a 28)
 
   by_window : (u : Window) → window_of (lens w) (fields_of a).address ≡ u → WindowFacts (lens w) (fields_of a).address u → (fields_of a).comment ≡ false
       → data_found u (room_in rooms (window_kind u)) (fields_of a) ≡ turned false (lies Flash (fields_of a).address) (found_before here (fields_of a))
-  by_window Outside e g z =
+  by_window None e g z =
       stray_before (lens w) here (fields_of a) (small here refl) e z
       ∙ ap (λ (i : Bool). turned false i (found_before here (fields_of a))) (sym (g Flash))
-  by_window (In k) e g z =
+  by_window (Some k) e g z =
       let k-is : k ≡ Flash = only_flash (lens w) m p k g.lent in
       let i : lies Flash (fields_of a).address ≡ true = inside k k-is g in
-      ap (λ (v : Kind). data_found (In v) (room_in rooms v) (fields_of a)) k-is
+      ap (λ (v : Kind). data_found (Some v) (room_in rooms v) (fields_of a)) k-is
       ∙ data_before here (fields_of a) z
       ∙ sym (ap (λ (b : Bool). turned false b (found_before here (fields_of a))) i ∙ turned_inside false (found_before here (fields_of a)))
     where
@@ -150,10 +145,10 @@ module _ (s : Settings) (w : World) (a : List ℕ) (m : length w.held.main ≡ 0
 
   header_before : (h : Header) → Fielded a h
       → after_header h (found rooms (lens w) w.transfer) ≡ turned (has_flag a 0x1) (lies Flash (field_at a 12)) (after_header h (found_before here))
-  header_before header.NotBlock g = rw (and-false (not (has_flag a 0x1) && not (lies Flash (field_at a 12))))
-  header_before header.Container g = rw (and-false (not (has_flag a 0x1) && not (lies Flash (field_at a 12))))
-  header_before header.NoFamily g = rw (and-false (not (has_flag a 0x1) && not (lies Flash (field_at a 12))))
-  header_before (header.Found b) g =
+  header_before (Err header.NotBlock) g = rw (and-false (not (has_flag a 0x1) && not (lies Flash (field_at a 12))))
+  header_before (Err header.Container) g = rw (and-false (not (has_flag a 0x1) && not (lies Flash (field_at a 12))))
+  header_before (Err header.NoFamily) g = rw (and-false (not (has_flag a 0x1) && not (lies Flash (field_at a 12))))
+  header_before (Ok b) g =
       subst (λ (b : Block). found rooms (lens w) w.transfer b ≡ turned (has_flag a 0x1) (lies Flash (field_at a 12)) (found_before here b)) (sym g)
       (found_before_lem ∙ unfold fields_of in refl)
 
@@ -166,15 +161,15 @@ module _ (s : Settings) (w : World) (a : List ℕ) (m : length w.held.main ≡ 0
 ten : (w : World) (p : List ℕ) (t : State) (seen : List ℕ) (c : Bool) (x : Screening)
     → eqb (outcome_number (done w p (after_screening t seen c x))) 10 ≡ eqb (screening_number x) 10
 unfolding after_screening
-ten w p t seen c (Refused x) = unfold done in refl
-ten w p t seen c (Passed g) =
+ten w p t seen c (Err x) = unfold done in refl
+ten w p t seen c (Ok g) =
     let d = deed_of c g in
     let b = marked_in seen g.number in
     let o = outcome_number (done w p (stepped g d (step_of t g.head b d))) in
     ne_eqb o 10 (λ e. omega (arith, step_late w p g d t b))
 
 turn_out : (w : World) (p : List ℕ) (t : State) (seen : List ℕ) (c b : Bool) (x : Screening)
-    → done w p (after_screening t seen c (cond b (Refused BadAddress) x)) ≡ cond b (unchanged w BadAddress) (done w p (after_screening t seen c x))
+    → done w p (after_screening t seen c (cond b (Err BadAddress) x)) ≡ cond b (unchanged w BadAddress) (done w p (after_screening t seen c x))
 turn_out w p t seen c true x = unfold after_screening done in refl
 turn_out w p t seen c false x = refl
 

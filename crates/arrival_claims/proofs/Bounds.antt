@@ -8,14 +8,14 @@ use native.Mathlib.Omega.{arith}
 use lib.Dec.{eqb}
 use lib.ListN.{length, get_or}
 use borrow.Author.Tests.{ne_eqb}
+use Rattle.std.specs.Prelude.{Option, Some, Ok, Err}
 use Rattle.laws.proofs.Tests.{split, clash, is_false}
 use Rattle.uf2_block.specs.Block.{field_at, has_flag}
 use Rattle.memory.specs.Flash.{payload_of, spans, room_at}
 use Rattle.memory.proofs.flash.Laws.{length_right, get_d_store}
 use Rattle.partitions.specs.declared.Settings.{Settings}
-use Rattle.placement.specs.Place.{place_of}
+use Rattle.placement.specs.Place.{place_of, place_from}
 use Rattle.placement.specs.declared.Place.{Place}
-use Rattle.placement.specs.declared.Place.TheVariants.{At}
 use Rattle.transfer.specs.Transfer.{number_of, same_kind}
 use Rattle.transfer.specs.declared.Kind.{Kind}
 use Rattle.transfer.specs.declared.Kind.TheVariants.{Flash, MainRam, XipRam}
@@ -23,11 +23,9 @@ use Rattle.transfer.specs.declared.Head.{Head}
 use Rattle.transfer.specs.declared.Accepted.{Accepted}
 use Rattle.transfer.specs.declared.Deed.{Deed}
 use Rattle.transfer.specs.declared.Deed.TheVariants.{Stores, Notes, Keeps}
-use Rattle.uf2_checks.specs.Screen.{is_lent, screen_of}
+use Rattle.uf2_checks.specs.Screen.{is_lent, screen_of, Screening}
 use Rattle.uf2_checks.specs.declared.Body.{Body}
 use Rattle.uf2_checks.specs.declared.PlacedBlock.{PlacedBlock}
-use Rattle.uf2_checks.specs.declared.Screening.{Screening}
-use Rattle.uf2_checks.specs.declared.Screening.TheVariants.{Refused, Passed}
 use Rattle.arrival.specs.Arrive.{Held, World, Decision, accepts, buffer_of, standing, after_screening, wiped_if, prepared_at, paged_at, at_of, done_to, accept_of, unchanged, done, receive_of}
 use Rattle.arrival.specs.Windows.{window_start, has_buffer, kind_of}
 use Rattle.arrival_claims.specs.Bounds.{RefusalsChangeNothing, Outside, OutsideKept, Windowed, WindowKept}
@@ -136,11 +134,11 @@ outside_done s w a j (took g k B l q t) o =
         ≡ get_or (wiped_if k.clears w.held).flash j 0
     inside e z =
         let i = passing_room s w a g q B in
-        let p : place_of s (flash_of w) (field_at a 28) ≡ At q.start q.size = rw (sym e) at q.place in
+        let p : place_of s (flash_of w) (field_at a 28) ≡ Some (place_from q.start q.size) = rw (sym e) at q.place in
         let r : field_at a 12 - window_start Flash + 256 ≤ q.size = rw (sym e) at (q.page z).ends in
         rw (sym e)
         (outside_page q.start q.size (q.start + (field_at a 12 - window_start Flash)) (payload_of a) (wiped_if k.clears w.held) j
-        (i.whole (sym e)).0 (i.whole (sym e)).1 (omega arith) (omega (arith, r)) (subst (λ (x : Place). Outside x j) p o))
+        (i.whole (sym e)).0 (i.whole (sym e)).1 (omega arith) (omega (arith, r)) (subst (λ (x : Option Place). Outside x j) p o))
 
     flash : Flash ≡ kind_of w a → get_or (done w (payload_of a) (accepts g (deed_at s w a g) k)).world.held.flash j 0 ≡ get_or w.held.flash j 0
     flash e =
@@ -169,8 +167,8 @@ window_kept s w a n z = go (rows s w a)
   where
     passed : Board s w → (x : Screening) → Good s w a x
         → 12 ≤ number_of (done w (payload_of a) (after_screening w.transfer w.seen (standing s w.held.flash a) x)).answer → Windowed w a
-    passed B (Refused x) h m = absurd (omega (arith, m, h.1))
-    passed B (Passed g) h m =
+    passed B (Err x) h m = absurd (omega (arith, m, h.1))
+    passed B (Ok g) h m =
         let k = kind_of w a in
         let i = passing_room s w a g h B in
         let p = h.page z in

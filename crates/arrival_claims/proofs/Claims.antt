@@ -8,14 +8,14 @@ use native.Mathlib.Omega.{arith}
 use lib.Dec.{eqb, ltb, leb}
 use lib.ListN.{length}
 use borrow.Author.Tests.{lt-leb, le-ltb, ne_eqb}
+use Rattle.std.specs.Prelude.{Option, Some}
 use Rattle.laws.proofs.Tests.{split, clash, is_false}
 use Rattle.memory.specs.Bitmap.{marked_in}
 use Rattle.uf2_block.specs.Block.{field_at, has_flag}
 use Rattle.memory.proofs.flash.Laws.{length_right}
 use Rattle.partitions.specs.declared.Settings.{Settings}
-use Rattle.placement.specs.Place.{place_of}
+use Rattle.placement.specs.Place.{place_of, place_from}
 use Rattle.placement.specs.declared.Place.{Place}
-use Rattle.placement.specs.declared.Place.TheVariants.{Nowhere, At}
 use Rattle.transfer.specs.declared.Kind.{Kind}
 use Rattle.transfer.specs.declared.Kind.TheVariants.{Flash, MainRam, XipRam}
 use Rattle.transfer.specs.declared.Head.{Head}
@@ -66,7 +66,7 @@ module _ (s : Settings) (w : World) (a : List ℕ) where
           aligned = ap (λ (n : ℕ). n % 256) b ∙ f.aligned e;
           start = q.start;
           size = q.size;
-          place = subst (λ (u : Kind). room_in (rooms_for s w a) u ≡ At q.start q.size) e q.place;
+          place = subst (λ (u : Kind). room_in (rooms_for s w a) u ≡ Some (place_from q.start q.size)) e q.place;
           sectors = i.whole e;
           from = omega (arith, b);
           to = omega (arith, b, (q.page z).ends);
@@ -97,7 +97,7 @@ plans_lie s w a = decided_lies s w a (decision_facts s w a) w.held.sectors
 -- a byte outside the place is none of the page's, nor of its sector's
 module _ (s : Settings) (w : World) (a : List ℕ) (j : ℕ) (o : Outside (place_of s (length w.held.flash) (field_at a 28)) j) (at : ℕ) (p : Lies s w a at) where
   away : (j < p.start) ⊎ (p.start + p.size ≤ j)
-  away = subst (λ (x : Place). Outside x j) p.place o
+  away = subst (λ (x : Option Place). Outside x j) p.place o
 
   page_away : in_page at j ≡ false
   page_away =

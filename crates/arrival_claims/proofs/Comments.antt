@@ -8,17 +8,16 @@ use native.Mathlib.Omega.{arith}
 use lib.Dec.{eqb, ltb, leb}
 use lib.ListN.{length, set, length-set}
 use borrow.Author.Tests.{eqb-true, eqb-false, le-ltb, leb-true, leb-false, ltb-true, ltb-false}
+use Rattle.std.specs.Prelude.{Option, Some, None, Ok, Err}
 use Rattle.laws.proofs.Tests.{split, clash, and_left, and_right, or_left, or_right}
 use Rattle.memory.specs.Bitmap.{marked_in, with_mark}
 use Rattle.memory.proofs.bitmap.Laws.{marked_past, marked_same, marked_other}
-use Rattle.uf2_block.specs.Block.{field_at, has_flag, fields_of, flagged_of, header_of}
-use Rattle.uf2_block.specs.declared.Header.{Header}
-use Rattle.uf2_block.specs.declared.Header.TheVariants as header
+use Rattle.uf2_block.specs.Block.{field_at, has_flag, fields_of, flagged_of, header_of, Header}
+use Rattle.uf2_block.specs.declared.HeaderError.TheVariants as header
 use Rattle.uf2_block.proofs.Laws.{field_set}
 use Rattle.memory.specs.Flash.{payload_of}
 use Rattle.partitions.specs.declared.Settings.{Settings}
 use Rattle.placement.specs.declared.Place.{Place}
-use Rattle.placement.specs.declared.Place.TheVariants.{Nowhere, At}
 use Rattle.transfer.specs.Transfer.{number_of, count_of, good_state, same_head, counted, deed_answer, raised}
 use Rattle.transfer.specs.declared.Kind.{Kind}
 use Rattle.transfer.specs.declared.Head.{Head}
@@ -28,11 +27,10 @@ use Rattle.transfer.specs.declared.State.TheVariants.{Idle, Running, Done}
 use Rattle.transfer.specs.declared.Deed.{Deed}
 use Rattle.transfer.specs.declared.Deed.TheVariants.{Stores, Notes, Keeps}
 use Rattle.transfer.specs.declared.Accepted.{Accepted}
-use Rattle.uf2_checks.specs.Screen.{note_kind, rooms_of, room_in, noted, note_found, found, after_header, screen_in, screen_of}
+use Rattle.uf2_checks.specs.Screen.{note_kind, rooms_of, room_in, noted, note_found, found, after_header, screen_in, screen_of, Screening}
 use Rattle.uf2_checks.proofs.Laws.{found_comment}
 use Rattle.uf2_checks.specs.declared.Lengths.{Lengths}
 use Rattle.uf2_checks.specs.declared.Rooms.{Rooms}
-use Rattle.uf2_checks.specs.declared.Screening.{Screening}
 use Rattle.uf2_checks.specs.declared.PlacedBlock.{PlacedBlock}
 use Rattle.uf2_checks.specs.declared.Body.TheVariants.{Note}
 use Rattle.arrival.specs.Arrive.{Held, World, Decision, buffer_of, accepts, standing, decide, decided, cleared_if, wiped_if, at_of, accept_of, done, receive_of}
@@ -183,10 +181,10 @@ module _ (s : Settings) (n : Lengths) (t : State) (a : List ℕ) (i x : ℕ) (y 
   kinds (Running r) = rw (family, total)
   kinds (Done g) = refl
 
-  beside : (k : Kind) (p : Place) → note_found k p (fields_of b) ≡ note_found k p (fields_of a)
+  beside : (k : Kind) (p : Option Place) → note_found k p (fields_of b) ≡ note_found k p (fields_of a)
   unfolding note_found noted fields_of
-  beside k Nowhere = refl
-  beside k (At start size) = rw (family, total, between 20 (omega arith) (omega arith))
+  beside k None = refl
+  beside k (Some p) = rw (family, total, between 20 (omega arith) (omega arith))
 
   comment_b : has_flag b 0x1 ≡ true
   comment_b = ap (λ (n : ℕ). eqb (n / 0x1 % 2) 1) (low 8 (omega arith)) ∙ y
@@ -211,11 +209,11 @@ module _ (s : Settings) (n : Lengths) (t : State) (a : List ℕ) (i x : ℕ) (y 
   screen_same =
       let r = rooms_of s n.flash (field_at a 28) in
       rw (family, low 0 (omega arith), low 4 (omega arith), low 8 (omega arith), last)
-      (pass r (not (eqb (field_at a 0) 0x0A324655)) header.NotBlock _ _
-      (pass r (not (eqb (field_at a 4) 0x9E5D5157)) header.NotBlock _ _
-      (pass r (not (eqb (field_at a 508) 0x0AB16F30)) header.NotBlock _ _
-      (pass r (has_flag a 0x1000) header.Container _ _
-      (pass r (not (has_flag a 0x2000)) header.NoFamily (header.Found (fields_of b)) (header.Found (fields_of a)) (found_same r))))))
+      (pass r (not (eqb (field_at a 0) 0x0A324655)) (Err header.NotBlock) _ _
+      (pass r (not (eqb (field_at a 4) 0x9E5D5157)) (Err header.NotBlock) _ _
+      (pass r (not (eqb (field_at a 508) 0x0AB16F30)) (Err header.NotBlock) _ _
+      (pass r (has_flag a 0x1000) (Err header.Container) _ _
+      (pass r (not (has_flag a 0x2000)) (Err header.NoFamily) (Ok (fields_of b)) (Ok (fields_of a)) (found_same r))))))
 
 -- an accepted comment does not read its payload
 payload_unread : (s : Settings) (w : World) (a : List ℕ) (p : List ℕ) {d : Decision} → DecisionFacts s w a d → has_flag a 0x1 ≡ true

@@ -8,12 +8,13 @@ use native.Mathlib.Omega.{arith}
 use lib.Dec.{eqb, ltb}
 use lib.ListN.{length}
 use borrow.Author.Tests.{eqb-true, le-leb}
+use Rattle.std.specs.Prelude.{Ok, Err}
 use Rattle.laws.proofs.Tests.{split, clash, and_left, and_right}
 use Rattle.memory.specs.Bitmap.{marked_in}
 use Rattle.memory.specs.Flash.{flash_length}
 use Rattle.partitions.specs.declared.Settings.{Settings}
 use Rattle.partitions.specs.Settings.{good_settings}
-use Rattle.transfer.specs.Transfer.{number_of, count_of, good_state, same_head, counted, deed_answer, raised, accepted, step_of}
+use Rattle.transfer.specs.Transfer.{number_of, count_of, good_state, same_head, counted, deed_answer, raised, accepted, step_of, Step}
 use Rattle.transfer.specs.declared.Kind.TheVariants.{MainRam, XipRam}
 use Rattle.transfer.specs.declared.Head.{Head}
 use Rattle.transfer.specs.declared.Run.{Run}
@@ -22,15 +23,11 @@ use Rattle.transfer.specs.declared.State.TheVariants.{Idle, Running, Done}
 use Rattle.transfer.specs.declared.Deed.{Deed}
 use Rattle.transfer.specs.declared.Deed.TheVariants.{Stores, Notes, Keeps}
 use Rattle.transfer.specs.declared.Accepted.{Accepted}
-use Rattle.transfer.specs.declared.Step.{Step}
-use Rattle.transfer.specs.declared.Step.TheVariants.{Stays, Accepts}
 use Rattle.transfer.specs.declared.Answer.{Answer}
 use Rattle.transfer.specs.declared.Answer.TheVariants.{BadBuffers, BadSettings, BadState}
-use Rattle.uf2_checks.specs.Screen.{screen_of}
+use Rattle.uf2_checks.specs.Screen.{screen_of, Screening}
 use Rattle.uf2_checks.specs.declared.Lengths.{Lengths}
 use Rattle.uf2_checks.specs.declared.PlacedBlock.{PlacedBlock}
-use Rattle.uf2_checks.specs.declared.Screening.{Screening}
-use Rattle.uf2_checks.specs.declared.Screening.TheVariants.{Refused, Passed}
 use Rattle.arrival.specs.Arrive.{World, Decision, outcome_number, done, stays, accepts, ram_length, right_lengths, standing, deed_of, stepped, after_screening, decide, decided}
 use Rattle.arrival_claims.specs.Tally.{clears}
 use Rattle.arrival.proofs.Heads.{head_same}
@@ -137,8 +134,8 @@ pub record AcceptFacts (t : State) (g : Head) (marked : Bool) (d : Deed) (k : Ac
   pub told : discards ≡ runs_other t g
 
 abbrev StepFacts : State → Head → Bool → Deed → Step → Type 0
-StepFacts t g m d (Stays x) = number_of x.answer ≤ 13
-StepFacts t g m d (Accepts k) = AcceptFacts t g m d k
+StepFacts t g m d (Err x) = number_of x.answer ≤ 13
+StepFacts t g m d (Ok k) = AcceptFacts t g m d k
 
 step_facts : (t : State) (g : Head) (m : Bool) (d : Deed) → StepFacts t g m d (step_of t g m d)
 unfolding step_of
@@ -203,13 +200,13 @@ decision_facts s w a = go (rows s w a)
     steps : Board s w → length a ≡ 512 → (g : PlacedBlock) → Passing s w a g → (st : Step)
         → StepFacts w.transfer g.head (marked_in w.seen g.number) (deed_at s w a g) st
         → DecisionFacts s w a (stepped g (deed_at s w a g) st)
-    steps B l g p (Stays x) h = refused x.answer h
-    steps B l g p (Accepts k) h = took g k B l p h
+    steps B l g p (Err x) h = refused x.answer h
+    steps B l g p (Ok k) h = took g k B l p h
 
     look : Board s w → length a ≡ 512 → (x : Screening) → Good s w a x
         → DecisionFacts s w a (after_screening w.transfer w.seen (standing s w.held.flash a) x)
-    look B l (Refused x) h = unfold after_screening in refused x (omega (arith, h))
-    look B l (Passed g) h =
+    look B l (Err x) h = unfold after_screening in refused x (omega (arith, h))
+    look B l (Ok g) h =
         unfold after_screening in steps B l g h (step_of w.transfer g.head (marked_in w.seen g.number) (deed_at s w a g))
         (step_facts w.transfer g.head (marked_in w.seen g.number) (deed_at s w a g))
 
@@ -225,8 +222,8 @@ unfolding decide
 decide_same s w a b c e = rw (same (screen_of s (lens w) w.transfer a) (screen_good s w a))
   where
     same : (x : Screening) → Good s w a x → after_screening w.transfer w.seen b x ≡ after_screening w.transfer w.seen c x
-    same (Refused x) h = unfold after_screening in refl
-    same (Passed g) h = unfold after_screening in rw (e g h)
+    same (Err x) h = unfold after_screening in refl
+    same (Ok g) h = unfold after_screening in rw (e g h)
 
 -- ---- the transfer that comes back passes row 3
 

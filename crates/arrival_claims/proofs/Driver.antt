@@ -8,6 +8,7 @@ use native.Mathlib.Omega.{arith}
 use lib.Dec.{eqb, ltb, leb}
 use lib.ListN.{length}
 use borrow.Author.Tests.{le-leb, lt-leb, eq-eqb, ne_eqb, eqb-true, eqb-false}
+use Rattle.std.specs.Prelude.{Ok, Err}
 use Rattle.laws.proofs.Tests.{split, clash}
 use Rattle.memory.specs.Bitmap.{marked_in, with_mark, unmarked}
 use Rattle.memory.proofs.bitmap.Laws.{marked_same, marked_other, marked_unmarked}
@@ -23,10 +24,8 @@ use Rattle.transfer.specs.declared.State.TheVariants.{Idle, Running, Done}
 use Rattle.transfer.specs.declared.Deed.{Deed}
 use Rattle.transfer.specs.declared.Deed.TheVariants.{Stores, Notes, Keeps}
 use Rattle.transfer.specs.declared.Accepted.{Accepted}
-use Rattle.uf2_checks.specs.Screen.{screen_of}
+use Rattle.uf2_checks.specs.Screen.{screen_of, Screening}
 use Rattle.uf2_checks.specs.declared.PlacedBlock.{PlacedBlock}
-use Rattle.uf2_checks.specs.declared.Screening.{Screening}
-use Rattle.uf2_checks.specs.declared.Screening.TheVariants.{Refused, Passed}
 use Rattle.arrival.specs.Arrive.{Held, World, Decision, stays, accepts, lengths_of, right_lengths, standing, deed_of, stepped, after_screening, decide, decided, cleared_if, wiped_if, paged_at, at_of, done_to, accept_of, done, receive_of}
 use Rattle.arrival.specs.Lists.{Delivery}
 use Rattle.arrival_claims.proofs.Screening.{Board, Passing}
@@ -55,8 +54,8 @@ begins_step (Done g) p d m = tt
 
 begins_screened : (u : State) (seen : List ℕ) (b : Bool) (x : Screening) → Begins u (after_screening u seen b x)
 unfolding after_screening
-begins_screened u seen b (Refused x) = tt
-begins_screened u seen b (Passed p) = begins_step u p (deed_of b p) (marked_in seen p.number)
+begins_screened u seen b (Err x) = tt
+begins_screened u seen b (Ok p) = begins_step u p (deed_of b p) (marked_in seen p.number)
 
 begins_decided : (s : Settings) (w : World) (a : List ℕ) → Begins w.transfer (decided s w a)
 unfolding decide

@@ -6,6 +6,7 @@ use mathlib.Core.List.{List}
 use native.Mathlib.Omega.{arith}
 use lib.Dec.{ltb}
 use lib.ListN.{length, get_or}
+use Rattle.std.specs.Prelude.{Ok, Err}
 use Rattle.laws.proofs.Tests.{split, is_false, both}
 use Rattle.memory.specs.Bitmap.{marked_in, with_mark}
 use Rattle.uf2_block.specs.Block.{field_at, has_flag}
@@ -20,7 +21,7 @@ use Rattle.uf2_block.proofs.regions.Laws.{Counting, good_yes, stands_there, dige
 use Rattle.partitions.specs.Settings.{good_settings}
 use Rattle.partitions.specs.declared.Settings.{Settings}
 use Rattle.placement.proofs.Theorems.{place_inside}
-use Rattle.transfer.specs.Transfer.{number_of, same_kind, good_state, same_head, deed_answer, raised, accepted, step_of}
+use Rattle.transfer.specs.Transfer.{number_of, same_kind, good_state, same_head, deed_answer, raised, accepted, step_of, Step}
 use Rattle.transfer.specs.declared.Kind.{Kind}
 use Rattle.transfer.specs.declared.Kind.TheVariants.{Flash}
 use Rattle.transfer.specs.declared.Head.{Head}
@@ -30,15 +31,11 @@ use Rattle.transfer.specs.declared.Deed.{Deed}
 use Rattle.transfer.specs.declared.Deed.TheVariants.{Stores, Notes, Keeps}
 use Rattle.transfer.specs.declared.Answer.{Answer}
 use Rattle.transfer.specs.declared.Answer.TheVariants.{BadBuffers, BadSettings, BadState}
-use Rattle.transfer.specs.declared.Step.{Step}
-use Rattle.transfer.specs.declared.Step.TheVariants.{Stays, Accepts}
-use Rattle.uf2_checks.specs.Screen.{screen_of}
+use Rattle.uf2_checks.specs.Screen.{screen_of, Screening}
 use Rattle.uf2_checks.specs.declared.Lengths.{Lengths}
 use Rattle.uf2_checks.specs.declared.Body.{Body}
 use Rattle.uf2_checks.specs.declared.Body.TheVariants.{Page, Note}
 use Rattle.uf2_checks.specs.declared.PlacedBlock.{PlacedBlock}
-use Rattle.uf2_checks.specs.declared.Screening.{Screening}
-use Rattle.uf2_checks.specs.declared.Screening.TheVariants.{Refused, Passed}
 use Rattle.arrival.specs.Arrive.{World, Decision, stays, right_lengths, stands_at, standing, body_deed, deed_of, stepped, after_screening, decide, decided, cleared_if, accept_of, done, receive_of}
 use Rattle.arrival.specs.Windows.{kind_of}
 use Rattle.arrival.specs.Facts.{flagged}
@@ -56,10 +53,10 @@ use Rattle.arrival_claims.proofs.Comments.{unstored}
 
 -- two steps that differ in 14 and 17 alone
 abbrev Like : Step → Step → Type 0
-Like (Stays x) (Stays y) = x ≡ y
-Like (Stays x) (Accepts l) = ⊥
-Like (Accepts k) (Stays y) = ⊥
-Like (Accepts k) (Accepts l) =
+Like (Err x) (Err y) = x ≡ y
+Like (Err x) (Ok l) = ⊥
+Like (Ok k) (Err y) = ⊥
+Like (Ok k) (Ok l) =
     (soft k.answer ≡ soft l.answer) × (k.discarded ≡ l.discarded) × (k.transfer ≡ l.transfer) × (k.clears ≡ l.clears)
 
 soft_raised : (d e : Deed) (g : Head) (c : ℕ) → soft (deed_answer d) ≡ soft (deed_answer e) → soft (raised d g c) ≡ soft (raised e g c)
@@ -67,7 +64,7 @@ unfolding raised
 soft_raised d e g c h = split (ltb c g.total) (λ y. rw y h) (λ z. rw z)
 
 like_accepted : (d e : Deed) (clears discards : Bool) (g : Head) (c : ℕ) → soft (deed_answer d) ≡ soft (deed_answer e)
-    → Like (Accepts (accepted d clears discards g c)) (Accepts (accepted e clears discards g c))
+    → Like (Ok (accepted d clears discards g c)) (Ok (accepted e clears discards g c))
 unfolding accepted
 like_accepted d e clears discards g c h = (soft_raised d e g c h, refl, refl, refl)
 
@@ -96,11 +93,11 @@ module _ (v w : World) (p : List ℕ) (transfers : v.transfer ≡ w.transfer) (m
 
   agree_steps : (g : PlacedBlock) (d e : Deed) (x y : Step) → Like x y → Agree (done v p (stepped g d x)) (done w p (stepped g e y))
   unfolding done accept_of
-  agree_steps g d e (Stays x) (Stays y) h =
+  agree_steps g d e (Err x) (Err y) h =
       record { answer = ap (λ u. soft u.answer) h; discarded = refl; transfer = transfers; seen = maps }
-  agree_steps g d e (Stays x) (Accepts l) h = absurd h
-  agree_steps g d e (Accepts k) (Stays y) h = absurd h
-  agree_steps g d e (Accepts k) (Accepts l) h =
+  agree_steps g d e (Err x) (Ok l) h = absurd h
+  agree_steps g d e (Ok k) (Err y) h = absurd h
+  agree_steps g d e (Ok k) (Ok l) h =
       record {
         answer = h.0;
         discarded = h.1;
@@ -110,8 +107,8 @@ module _ (v w : World) (p : List ℕ) (transfers : v.transfer ≡ w.transfer) (m
 
   agree_screened : (t : State) (seen : List ℕ) (b c : Bool) (x : Screening) → Agree (done v p (after_screening t seen b x)) (done w p (after_screening t seen c x))
   unfolding after_screening
-  agree_screened t seen b c (Refused x) = agree_stays x
-  agree_screened t seen b c (Passed g) =
+  agree_screened t seen b c (Err x) = agree_stays x
+  agree_screened t seen b c (Ok g) =
       let k = same_kind g.head.kind Flash in
       agree_steps g (deed_of b g) (deed_of c g)
       (step_of t g.head (marked_in seen g.number) (deed_of b g))

@@ -8,35 +8,30 @@ use native.Mathlib.Omega.{arith}
 use lib.Dec.{eqb, ltb, leb}
 use lib.ListN.{get_or}
 use borrow.Author.Tests.{leb-true, le-leb, ltb-true, lt-ltb, eqb-true, eq-eqb}
+use Rattle.std.specs.Prelude.{Option, Some, None, Ok, Err}
 use Rattle.laws.specs.Sets.{Set, any}
 use Rattle.laws.proofs.Laws.{any_hit}
 use Rattle.laws.proofs.Tests.{split, clash, both, and_left, and_right}
 use Rattle.memory.specs.Bitmap.{marked_in}
-use Rattle.uf2_block.specs.Block.{field_at, has_flag, fields_of, header_of}
+use Rattle.uf2_block.specs.Block.{field_at, has_flag, fields_of, header_of, Header}
 use Rattle.uf2_block.specs.declared.Block.{Block}
-use Rattle.uf2_block.specs.declared.Header.{Header}
-use Rattle.uf2_block.specs.declared.Header.TheVariants as header
+use Rattle.uf2_block.specs.declared.HeaderError.TheVariants as header
 use Rattle.memory.specs.Flash.{payload_of}
 use Rattle.partitions.specs.Settings.{family_data, family_arm_ns, user_is, has_user, entry_at}
 use Rattle.partitions.specs.declared.Settings.{Settings}
 use Rattle.partitions.proofs.Laws.{good_count}
-use Rattle.placement.specs.Place.{used_count, whole_if, user_of, ram_family}
+use Rattle.placement.specs.Place.{used_count, whole_if, user_of, ram_family, place_from}
 use Rattle.placement.specs.declared.Place.{Place}
-use Rattle.placement.specs.declared.Place.TheVariants.{Nowhere, At}
 use Rattle.transfer.specs.Transfer.{number_of}
 use Rattle.transfer.specs.declared.Kind.{Kind}
 use Rattle.transfer.specs.declared.Kind.TheVariants.{Flash, MainRam, XipRam}
 use Rattle.transfer.specs.declared.Answer.{Answer}
 use Rattle.transfer.specs.declared.Answer.TheVariants.{NoPlace}
-use Rattle.uf2_checks.specs.Screen.{window_of, note_kind, room_in, bad_numbers, bad_address, placed, strayed, noted, window_kind, data_found, note_found, found, after_header, screen_in, screen_of, screening_number}
+use Rattle.uf2_checks.specs.Screen.{window_of, note_kind, room_in, bad_numbers, bad_address, placed, strayed, noted, window_kind, data_found, note_found, found, after_header, screen_in, screen_of, screening_number, Screening, Window}
 use Rattle.uf2_checks.proofs.Laws.{found_comment, found_data}
 use Rattle.uf2_checks.proofs.Windows.{WindowFacts, window_facts}
 use Rattle.uf2_checks.specs.declared.Lengths.{Lengths}
 use Rattle.uf2_checks.specs.declared.Rooms.{Rooms}
-use Rattle.uf2_checks.specs.declared.Window.{Window}
-use Rattle.uf2_checks.specs.declared.Window.TheVariants.{Outside, In}
-use Rattle.uf2_checks.specs.declared.Screening.{Screening}
-use Rattle.uf2_checks.specs.declared.Screening.TheVariants.{Refused, Passed}
 use Rattle.arrival.specs.Arrive.{World, Decision, standing, deed_of, after_screening, decided, done, receive_of}
 use Rattle.arrival.specs.Windows.{window_start, window_end, kind_of}
 use Rattle.arrival_claims.specs.Ram.{RamFamily, named, user, RamFamilies, RamAddresses}
@@ -107,34 +102,34 @@ eight_cond false x y p q = q
 
 noted_8 : (k : Kind) (size : ℕ) (b : Block) → Placed8 (noted k size b)
 unfolding noted
-noted_8 k size b = eight_cond (bad_numbers size b) (Refused _) (Passed _) (λ e. omega arith) (λ e. omega arith)
+noted_8 k size b = eight_cond (bad_numbers size b) (Err _) (Ok _) (λ e. omega arith) (λ e. omega arith)
 
 placed_8 : (k : Kind) (start size : ℕ) (b : Block) → Placed8 (placed k start size b)
 unfolding placed
 placed_8 k start size b =
-    eight_cond (not (eqb b.size 256)) (Refused _) _ (λ e. omega arith)
-    (eight_cond (bad_numbers size b) (Refused _) _ (λ e. omega arith)
-    (eight_cond (bad_address k size b) (Refused _) (Passed _) (λ e. omega arith) (λ e. omega arith)))
+    eight_cond (not (eqb b.size 256)) (Err _) _ (λ e. omega arith)
+    (eight_cond (bad_numbers size b) (Err _) _ (λ e. omega arith)
+    (eight_cond (bad_address k size b) (Err _) (Ok _) (λ e. omega arith) (λ e. omega arith)))
 
 strayed_8 : (b : Block) → Placed8 (strayed b)
 unfolding strayed
-strayed_8 b = eight_cond (not (eqb b.size 256)) (Refused _) (Refused _) (λ e. omega arith) (λ e. omega arith)
+strayed_8 b = eight_cond (not (eqb b.size 256)) (Err _) (Err _) (λ e. omega arith) (λ e. omega arith)
 
 -- rows 8 to 11 by the place of the kind
-abbrev ByPlace : Place → Screening → Type 0
-ByPlace Nowhere x = x ≡ Refused NoPlace
-ByPlace (At start size) x = Placed8 x
+abbrev ByPlace : Option Place → Screening → Type 0
+ByPlace None x = x ≡ Err NoPlace
+ByPlace (Some p) x = Placed8 x
 
-note_by : (k : Kind) (p : Place) (b : Block) → ByPlace p (note_found k p b)
+note_by : (k : Kind) (p : Option Place) (b : Block) → ByPlace p (note_found k p b)
 unfolding note_found
-note_by k Nowhere b = refl
-note_by k (At start size) b = noted_8 k size b
+note_by k None b = refl
+note_by k (Some p) b = noted_8 k p.len b
 
-data_by : (u : Window) (p : Place) (b : Block) → ByPlace p (data_found u p b)
+data_by : (u : Window) (p : Option Place) (b : Block) → ByPlace p (data_found u p b)
 unfolding data_found
-data_by u Nowhere b = refl
-data_by Outside (At start size) b = strayed_8 b
-data_by (In k) (At start size) b = placed_8 k start size b
+data_by u None b = refl
+data_by None (Some p) b = strayed_8 b
+data_by (Some k) (Some p) b = placed_8 k p.start p.len b
 
 module _ (s : Settings) (w : World) (a : List ℕ) where
   found_by : ByPlace (room_in (rooms_for s w a) (kind_of w a)) (found (rooms_for s w a) (lens w) w.transfer (fields_of a))
@@ -153,17 +148,17 @@ module _ (s : Settings) (w : World) (a : List ℕ) where
 
   -- of a family that may not go to RAM nothing passes row 8, and of one that may nothing is refused there
   pub record Row8 (x : Screening) : Type 0 where
-    pub others : ram_family s (field_at a 28) ≡ false → (y : Answer) × (x ≡ Refused y) × (number_of y ≤ 8)
+    pub others : ram_family s (field_at a 28) ≡ false → (y : Answer) × (x ≡ Err y) × (number_of y ≤ 8)
     pub those : ram_family s (field_at a 28) ≡ true → Placed8 x
 
   row_8 : kind_of w a ≢ Flash → (h : Header) → Fielded a h → Row8 (after_header h (found (rooms_for s w a) (lens w) w.transfer))
-  row_8 n header.NotBlock f = record { others = λ z. (_, refl, omega arith); those = λ y e. omega arith }
-  row_8 n header.Container f = record { others = λ z. (_, refl, omega arith); those = λ y e. omega arith }
-  row_8 n header.NoFamily f = record { others = λ z. (_, refl, omega arith); those = λ y e. omega arith }
-  row_8 n (header.Found b) f =
+  row_8 n (Err header.NotBlock) f = record { others = λ z. (_, refl, omega arith); those = λ y e. omega arith }
+  row_8 n (Err header.Container) f = record { others = λ z. (_, refl, omega arith); those = λ y e. omega arith }
+  row_8 n (Err header.NoFamily) f = record { others = λ z. (_, refl, omega arith); those = λ y e. omega arith }
+  row_8 n (Ok b) f =
       let x = found (rooms_for s w a) (lens w) w.transfer (fields_of a) in
       let q = ram_room (rooms_for s w a) (kind_of w a) n in
-      let e : ByPlace (whole_if (ram_family s (field_at a 28)) q.0) x = subst (λ (p : Place). ByPlace p x) q.1 found_by in
+      let e : ByPlace (whole_if (ram_family s (field_at a 28)) q.0) x = subst (λ (p : Option Place). ByPlace p x) q.1 found_by in
       subst (λ (b : Block). Row8 (found (rooms_for s w a) (lens w) w.transfer b)) (sym f)
       (record {
         others = λ z. (NoPlace, subst (λ (c : Bool). ByPlace (whole_if c q.0) x) z e, omega arith);
@@ -177,8 +172,8 @@ module _ (s : Settings) (w : World) (a : List ℕ) where
   -- the answer to an arrival that has passed rows 1 to 3
   answered : (b : Bool) (x : Screening) → Placed8 x → number_of (done w (payload_of a) (after_screening w.transfer w.seen b x)).answer ≢ 8
   unfolding after_screening
-  answered b (Refused x) n = unfold done in n
-  answered b (Passed g) n = λ e. omega (arith, step_late w (payload_of a) g (deed_of b g) w.transfer (marked_in w.seen g.number))
+  answered b (Err x) n = unfold done in n
+  answered b (Ok g) n = λ e. omega (arith, step_late w (payload_of a) g (deed_of b g) w.transfer (marked_in w.seen g.number))
 
 -- what the claim says of a decision
 abbrev Says : Settings → World → List ℕ → Decision → Type 0
@@ -186,7 +181,7 @@ Says s w a d =
     (9 ≤ number_of (done w (payload_of a) d).answer → RamFamily s (field_at a 28))
     × (RamFamily s (field_at a 28) → number_of (done w (payload_of a) d).answer ≢ 8)
 
-over : (w : World) (p : List ℕ) (b : Bool) (x : Screening) (y : Answer) → x ≡ Refused y → number_of y ≤ 8
+over : (w : World) (p : List ℕ) (b : Bool) (x : Screening) (y : Answer) → x ≡ Err y → number_of y ≤ 8
     → 9 ≤ number_of (done w p (after_screening w.transfer w.seen b x)).answer → ⊥
 unfolding after_screening done
 over w p b x y e h l = let q : 9 ≤ number_of y = rw e at l in omega arith
@@ -229,18 +224,18 @@ ram_past Flash size b n e = absurd (n refl)
 ram_past MainRam size b n e = ltb-true _ _ e
 ram_past XipRam size b n e = ltb-true _ _ e
 
-ram_end : (k : Kind) → k ≢ Flash → (r : Rooms) (start size : ℕ) → room_in r k ≡ At start size → window_start k + size ≡ window_end k
+ram_end : (k : Kind) → k ≢ Flash → (r : Rooms) (start size : ℕ) → room_in r k ≡ Some (place_from start size) → window_start k + size ≡ window_end k
 ram_end Flash n r start size e = absurd (n refl)
 ram_end MainRam n r start size e = omega (arith, whole_is r.ram 532480 start size e)
 ram_end XipRam n r start size e = omega (arith, whole_is r.ram 16384 start size e)
 
 past_data : (n : Lengths) (x : ℕ) (r : Rooms) (b : Block) → b.address ≡ x → (u : Window) → WindowFacts n x u → window_kind u ≢ Flash
-    → (p : Place) → room_in r (window_kind u) ≡ p → screening_number (data_found u p b) ≡ 11 → window_end (window_kind u) < x + 256
+    → (p : Option Place) → room_in r (window_kind u) ≡ p → screening_number (data_found u p b) ≡ 11 → window_end (window_kind u) < x + 256
 unfolding data_found
-past_data n x r b a Outside f k p e q = absurd (k refl)
-past_data n x r b a (In k) f m Nowhere e q = absurd (omega arith)
-past_data n x r b a (In k) f m (At start size) e q =
-    omega (arith, ram_past k size b m (past_placed k start size b q), ram_end k m r start size e, f.low, start_is k)
+past_data n x r b a None f k p e q = absurd (k refl)
+past_data n x r b a (Some k) f m None e q = absurd (omega arith)
+past_data n x r b a (Some k) f m (Some p) e q =
+    omega (arith, ram_past k p.len b m (past_placed k p.start p.len b q), ram_end k m r p.start p.len e, f.low, start_is k)
 
 module _ (s : Settings) (w : World) (a : List ℕ) (n : kind_of w a ≢ Flash) (z : has_flag a 0x1 ≡ false) where
   abbrev Past : Type 0
@@ -259,10 +254,10 @@ module _ (s : Settings) (w : World) (a : List ℕ) (n : kind_of w a ≢ Flash) (
       facts = unfold fields_of in window_facts (lens w) (field_at a 12)
 
   past_header : (h : Header) → Fielded a h → screening_number (after_header h (found (rooms_for s w a) (lens w) w.transfer)) ≡ 11 → Past
-  past_header header.NotBlock f e = absurd (omega arith)
-  past_header header.Container f e = absurd (omega arith)
-  past_header header.NoFamily f e = absurd (omega arith)
-  past_header (header.Found b) f e =
+  past_header (Err header.NotBlock) f e = absurd (omega arith)
+  past_header (Err header.Container) f e = absurd (omega arith)
+  past_header (Err header.NoFamily) f e = absurd (omega arith)
+  past_header (Ok b) f e =
       past_found (subst (λ (b : Block). screening_number (found (rooms_for s w a) (lens w) w.transfer b) ≡ 11) f e)
 
   past_screen : screening_number (screen_of s (lens w) w.transfer a) ≡ 11 → Past
@@ -271,8 +266,8 @@ module _ (s : Settings) (w : World) (a : List ℕ) (n : kind_of w a ≢ Flash) (
 
   past_answer : (b : Bool) (x : Screening) → number_of (done w (payload_of a) (after_screening w.transfer w.seen b x)).answer ≡ 11 → screening_number x ≡ 11
   unfolding after_screening
-  past_answer b (Refused x) e = unfold done in e
-  past_answer b (Passed g) e =
+  past_answer b (Err x) e = unfold done in e
+  past_answer b (Ok g) e =
       absurd (omega (arith, step_late w (payload_of a) g (deed_of b g) w.transfer (marked_in w.seen g.number)))
 
   pub past_end : number_of (receive_of s w a).answer ≡ 11 → Past

@@ -9,18 +9,18 @@ use native.Mathlib.Omega.{arith}
 use lib.Dec.{eqb, ltb}
 use lib.ListN.{length}
 use borrow.Author.Tests.{eqb-true, not-true}
+use Rattle.std.specs.Prelude.{Option, Some, None, Ok, Err}
 use Rattle.laws.proofs.Tests.{split, clash, and_right}
-use Rattle.uf2_block.specs.Block.{field_at, has_flag, fields_of, flagged_of, header_of}
+use Rattle.uf2_block.specs.Block.{field_at, has_flag, fields_of, flagged_of, header_of, Header}
 use Rattle.uf2_block.specs.declared.Block.{Block}
-use Rattle.uf2_block.specs.declared.Header.{Header}
-use Rattle.uf2_block.specs.declared.Header.TheVariants as header
+use Rattle.uf2_block.specs.declared.HeaderError.TheVariants as header
 use Rattle.memory.specs.Flash.{flash_length, payload_of}
 use Rattle.memory.proofs.flash.Laws.{length_right, length_payload}
 use Rattle.partitions.specs.declared.Settings.{Settings}
 use Rattle.partitions.specs.Settings.{good_settings}
-use Rattle.placement.specs.Place.{whole_if, ram_family}
+use Rattle.placement.proofs.Laws.{start_is as same_start, len_is}
+use Rattle.placement.specs.Place.{whole_if, ram_family, place_from}
 use Rattle.placement.specs.declared.Place.{Place}
-use Rattle.placement.specs.declared.Place.TheVariants.{Nowhere, At}
 use Rattle.placement.proofs.Theorems.{place_inside}
 use Rattle.transfer.specs.Transfer.{number_of, same_kind, head_with, good_state, counted}
 use Rattle.transfer.specs.declared.Kind.{Kind}
@@ -28,18 +28,14 @@ use Rattle.transfer.specs.declared.Kind.TheVariants.{Flash, MainRam, XipRam}
 use Rattle.transfer.specs.declared.Head.{Head}
 use Rattle.transfer.specs.declared.State.{State}
 use Rattle.transfer.specs.declared.State.TheVariants.{Idle, Running, Done}
-use Rattle.uf2_checks.specs.Screen.{extent_of, is_lent, window_of, note_kind, rooms_of, room_in, bad_numbers, bad_address, placed, strayed, noted, window_kind, data_found, note_found, found, after_header, screen_in, screen_of}
+use Rattle.uf2_checks.specs.Screen.{extent_of, is_lent, window_of, note_kind, rooms_of, room_in, bad_numbers, bad_address, placed, strayed, noted, window_kind, data_found, note_found, found, after_header, screen_in, screen_of, Screening, Window}
 use Rattle.uf2_checks.proofs.Laws.{numbers_false, found_comment, found_data}
 use Rattle.uf2_checks.proofs.Windows.{InWindow, WindowFacts, window_facts, in_room}
 use Rattle.transfer.specs.declared.Deed.TheVariants.{Stores, Notes, Keeps}
 use Rattle.uf2_checks.specs.declared.Lengths.{Lengths}
 use Rattle.uf2_checks.specs.declared.Rooms.{Rooms}
-use Rattle.uf2_checks.specs.declared.Window.{Window}
-use Rattle.uf2_checks.specs.declared.Window.TheVariants.{Outside, In}
 use Rattle.uf2_checks.specs.declared.Body.TheVariants.{Page, Note}
 use Rattle.uf2_checks.specs.declared.PlacedBlock.{PlacedBlock}
-use Rattle.uf2_checks.specs.declared.Screening.{Screening}
-use Rattle.uf2_checks.specs.declared.Screening.TheVariants.{Refused, Passed}
 use Rattle.arrival.specs.Arrive.{World, buffer_of, lengths_of, ram_length, deed_of}
 use Rattle.arrival.specs.Windows.{window_start, window_end, kind_of}
 use Rattle.arrival.specs.File.{is_found, start_of, origin_of}
@@ -49,10 +45,10 @@ use Rattle.arrival.proofs.Paged.{Fits}
 -- ---- a header that yields a block yields the arrival's fields
 
 abbrev pub Fielded : List ℕ → Header → Type 0
-Fielded a header.NotBlock = Unit {0}
-Fielded a header.Container = Unit {0}
-Fielded a header.NoFamily = Unit {0}
-Fielded a (header.Found b) = b ≡ fields_of a
+Fielded a (Err header.NotBlock) = Unit {0}
+Fielded a (Err header.Container) = Unit {0}
+Fielded a (Err header.NoFamily) = Unit {0}
+Fielded a (Ok b) = b ≡ fields_of a
 
 pub fielded : (a : List ℕ) → Fielded a (header_of a)
 unfolding header_of flagged_of
@@ -110,7 +106,7 @@ pub record Paging (a : List ℕ) (k : Kind) (size : ℕ) : Type 0 where
 pub record PassingAs (s : Settings) (w : World) (a : List ℕ) (g : PlacedBlock) (k : Kind) : Type 0 where
   pub start : ℕ
   pub size : ℕ
-  pub place : room_in (rooms_for s w a) k ≡ At start size
+  pub place : room_in (rooms_for s w a) k ≡ Some (place_from start size)
   pub lent : is_lent (lens w) k ≡ true
   pub head : g.head ≡ head_with k (field_at a 28) (field_at a 24)
   pub number : g.number ≡ field_at a 20
@@ -124,8 +120,8 @@ abbrev pub Passing : Settings → World → List ℕ → PlacedBlock → Type 0
 Passing s w a g = PassingAs s w a g (kind_of w a)
 
 abbrev pub Good : Settings → World → List ℕ → Screening → Type 0
-Good s w a (Refused x) = (4 ≤ number_of x) × (number_of x ≤ 11)
-Good s w a (Passed g) = Passing s w a g
+Good s w a (Err x) = (4 ≤ number_of x) × (number_of x ≤ 11)
+Good s w a (Ok g) = Passing s w a g
 
 note_lent : (n : Lengths) (t : State) (b : Block) → is_lent n (note_kind n t b) ≡ true
 unfolding note_kind
@@ -151,7 +147,7 @@ module _ (s : Settings) (w : World) (a : List ℕ) where
     unfolding kind_of
     kind-data k f = rw z (data_kind_lem w (field_at a 12) k f)
 
-    placed-good : (k : Kind) (start size : ℕ) → InWindow (lens w) k (field_at a 12) → room_in (rooms_for s w a) k ≡ At start size
+    placed-good : (k : Kind) (start size : ℕ) → InWindow (lens w) k (field_at a 12) → room_in (rooms_for s w a) k ≡ Some (place_from start size)
         → Good s w a (placed k start size (fields_of a))
     unfolding placed fields_of
     placed-good k start size f e =
@@ -180,14 +176,14 @@ module _ (s : Settings) (w : World) (a : List ℕ) where
 
     strayed-good : Good s w a (strayed (fields_of a))
     unfolding strayed
-    strayed-good = good_cond (not (eqb (fields_of a).size 256)) (Refused _) (Refused _) (omega arith, omega arith) (λ e. (omega arith, omega arith))
+    strayed-good = good_cond (not (eqb (fields_of a).size 256)) (Err _) (Err _) (omega arith, omega arith) (λ e. (omega arith, omega arith))
 
-    data-good : (u : Window) → WindowFacts (lens w) (field_at a 12) u → (p : Place) → room_in (rooms_for s w a) (window_kind u) ≡ p
+    data-good : (u : Window) → WindowFacts (lens w) (field_at a 12) u → (p : Option Place) → room_in (rooms_for s w a) (window_kind u) ≡ p
         → Good s w a (data_found u p (fields_of a))
     unfolding data_found
-    data-good u f Nowhere e = (omega arith, omega arith)
-    data-good Outside f (At start size) e = strayed-good
-    data-good (In k) f (At start size) e = placed-good k start size f e
+    data-good u f None e = (omega arith, omega arith)
+    data-good None f (Some p) e = strayed-good
+    data-good (Some k) f (Some p) e = placed-good k p.start p.len f e
 
   -- of a comment
   module _ (y : has_flag a 0x1 ≡ true) where
@@ -195,17 +191,17 @@ module _ (s : Settings) (w : World) (a : List ℕ) where
     unfolding kind_of
     kind_note = rw y (sym (comment_kind_lem w a w.transfer))
 
-    note-good : (k : Kind) → kind_of w a ≡ k → is_lent (lens w) k ≡ true → (p : Place) → room_in (rooms_for s w a) k ≡ p → Good s w a (note_found k p (fields_of a))
+    note-good : (k : Kind) → kind_of w a ≡ k → is_lent (lens w) k ≡ true → (p : Option Place) → room_in (rooms_for s w a) k ≡ p → Good s w a (note_found k p (fields_of a))
     unfolding note_found noted fields_of
-    note-good k q l Nowhere e = (omega arith, omega arith)
-    note-good k q l (At start size) e =
-        good_cond (bad_numbers size (fields_of a)) _ _ (omega arith, omega arith)
+    note-good k q l None e = (omega arith, omega arith)
+    note-good k q l (Some p) e =
+        good_cond (bad_numbers p.len (fields_of a)) _ _ (omega arith, omega arith)
         (λ e10.
-        let n = numbers_false size (fields_of a) e10 in
+        let n = numbers_false p.len (fields_of a) e10 in
         rw q
         (record {
-          start = start;
-          size = size;
+          start = p.start;
+          size = p.len;
           place = e;
           lent = l;
           head = refl;
@@ -232,10 +228,10 @@ module _ (s : Settings) (w : World) (a : List ℕ) where
       facts = unfold fields_of in window_facts (lens w) (field_at a 12)
 
   header_good : (h : Header) → Fielded a h → Good s w a (after_header h (found (rooms_for s w a) (lens w) w.transfer))
-  header_good header.NotBlock f = (omega arith, omega arith)
-  header_good header.Container f = (omega arith, omega arith)
-  header_good header.NoFamily f = (omega arith, omega arith)
-  header_good (header.Found b) f =
+  header_good (Err header.NotBlock) f = (omega arith, omega arith)
+  header_good (Err header.Container) f = (omega arith, omega arith)
+  header_good (Err header.NoFamily) f = (omega arith, omega arith)
+  header_good (Ok b) f =
       subst (λ (b : Block). Good s w a (found (rooms_for s w a) (lens w) w.transfer b)) (sym f) found_good
 
   pub screen_good : Good s w a (screen_of s (lens w) w.transfer a)
@@ -248,10 +244,10 @@ module _ (s : Settings) (w : World) (a : List ℕ) where
 pub header_turn : (r : Rooms) (n : Lengths) (t u : State) (a : List ℕ) (h : Header) → Fielded a h
     → (is_found h ≡ true → has_flag a 0x1 ≡ true → note_kind n t (fields_of a) ≡ note_kind n u (fields_of a))
     → after_header h (found r n t) ≡ after_header h (found r n u)
-header_turn r n t u a header.NotBlock f e = refl
-header_turn r n t u a header.Container f e = refl
-header_turn r n t u a header.NoFamily f e = refl
-header_turn r n t u a (header.Found b) f e =
+header_turn r n t u a (Err header.NotBlock) f e = refl
+header_turn r n t u a (Err header.Container) f e = refl
+header_turn r n t u a (Err header.NoFamily) f e = refl
+header_turn r n t u a (Ok b) f e =
     subst (λ (b : Block). found r n t b ≡ found r n u b) (sym f)
     (split (has_flag a 0x1)
     (λ y.
@@ -294,12 +290,12 @@ pub record Room (w : World) (k : Kind) (start size : ℕ) : Type 0 where
   pub most : size ≤ 33554432
   pub ends : window_start k + size ≤ window_end k
 
-pub whole_is : (b : Bool) (n start size : ℕ) → whole_if b n ≡ At start size → (start ≡ 0) × (size ≡ n)
-whole_is true n start size e = let p : 0 ≡ start = cc in let q : n ≡ size = cc in (sym p, sym q)
+pub whole_is : (b : Bool) (n start size : ℕ) → whole_if b n ≡ Some (place_from start size) → (start ≡ 0) × (size ≡ n)
+whole_is true n start size e = (sym (same_start e), sym (len_is e))
 whole_is false n start size e = let z : ◌≡◌ {A = ℕ} 0 1 = cc in absurd (omega arith)
 
 module _ (s : Settings) (w : World) (B : Board s w) (f : ℕ) where
-  pub room_of : (k : Kind) (start size : ℕ) → room_in (rooms_of s (flash_of w) f) k ≡ At start size → is_lent (lens w) k ≡ true → Room w k start size
+  pub room_of : (k : Kind) (start size : ℕ) → room_in (rooms_of s (flash_of w) f) k ≡ Some (place_from start size) → is_lent (lens w) k ≡ true → Room w k start size
   room_of Flash start size e l =
       let i = place_inside s (flash_of w) f B.flash B.good start size e in
       let m = (length_right (flash_of w) B.flash).most in
@@ -322,7 +318,7 @@ module _ (s : Settings) (w : World) (B : Board s w) (f : ℕ) where
       }
 
   -- it starts where the claims say
-  pub room_origin : (k : Kind) (start size : ℕ) → room_in (rooms_of s (flash_of w) f) k ≡ At start size → start ≡ origin_of s w k f
+  pub room_origin : (k : Kind) (start size : ℕ) → room_in (rooms_of s (flash_of w) f) k ≡ Some (place_from start size) → start ≡ origin_of s w k f
   room_origin Flash start size e = sym (ap start_of e)
   room_origin MainRam start size e = (whole_is (ram_family s f) 532480 start size e).0
   room_origin XipRam start size e = (whole_is (ram_family s f) 16384 start size e).0

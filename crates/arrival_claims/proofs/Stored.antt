@@ -8,6 +8,7 @@ use native.Mathlib.Omega.{arith}
 use lib.Dec.{eqb, ltb, leb}
 use lib.ListN.{length, get_or}
 use borrow.Author.Tests.{eqb-true, eq-eqb, ne_eqb, lt-ltb, le-ltb, ltb-true, ltb-false, lt-leb, le-leb}
+use Rattle.std.specs.Prelude.{Some}
 use Rattle.laws.proofs.Tests.{split, clash, is_false}
 use Rattle.memory.specs.Bitmap.{marked_in, with_mark, unmarked}
 use Rattle.memory.proofs.bitmap.Laws.{marked_after, marked_unmarked}
@@ -15,9 +16,8 @@ use Rattle.uf2_block.specs.Block.{field_at, has_flag}
 use Rattle.memory.specs.Flash.{payload_of, spans, store_at}
 use Rattle.memory.proofs.flash.Laws.{get_d_payload, get_d_store, room_yes, length_right}
 use Rattle.partitions.specs.declared.Settings.{Settings}
-use Rattle.placement.specs.Place.{place_of}
-use Rattle.placement.specs.declared.Place.{Place}
-use Rattle.placement.specs.declared.Place.TheVariants.{Nowhere, At}
+use Rattle.placement.proofs.Laws.{start_is as same_start}
+use Rattle.placement.specs.Place.{place_of, place_from}
 use Rattle.transfer.specs.Transfer.{number_of, count_of, same_head, counted, raised}
 use Rattle.transfer.specs.declared.Kind.{Kind}
 use Rattle.transfer.specs.declared.Kind.TheVariants.{Flash}
@@ -99,8 +99,8 @@ going w a t (Done g) e =
 
 -- ---- the page
 
-place_flash : (s : Settings) (w : World) (a : List ℕ) (u : Kind) → u ≡ Flash → (start size : ℕ) → room_in (rooms_for s w a) u ≡ At start size
-    → place_of s (length w.held.flash) (field_at a 28) ≡ At start size
+place_flash : (s : Settings) (w : World) (a : List ℕ) (u : Kind) → u ≡ Flash → (start size : ℕ) → room_in (rooms_for s w a) u ≡ Some (place_from start size)
+    → place_of s (length w.held.flash) (field_at a 28) ≡ Some (place_from start size)
 place_flash s w a u f start size h = ap (λ (v : Kind). room_in (rooms_for s w a) v) (sym f) ∙ h
 
 either_out : (at j : ℕ) → (j < at) ⊎ (at + 256 ≤ j) → spans at j ≡ false
@@ -224,8 +224,8 @@ flash_stored s w a start size z f st m e = go (decision_facts s w a) m
     go (refused x h) m = let r : 14 ≤ number_of x = unfold done in m in absurd (omega arith)
     go (took g k B l q t) m =
         let keeps : keeps_at s w a ≡ false = is_false (keeps_at s w a) (λ y. st (standing_of s w a z y)) in
-        let p : place_of s (length w.held.flash) (field_at a 28) ≡ At q.start q.size = place_flash s w a (kind_of w a) f q.start q.size q.place in
-        let x : At start size ≡ At q.start q.size = sym e ∙ p in
-        let y : q.start ≡ start = cc in
+        let p : place_of s (length w.held.flash) (field_at a 28) ≡ Some (place_from q.start q.size) = place_flash s w a (kind_of w a) f q.start q.size q.place in
+        let x : Some (place_from start size) ≡ Some (place_from q.start q.size) = sym e ∙ p in
+        let y : q.start ≡ start = sym (same_start x) in
         subst (λ (i : ℕ). FlashStored w a (i + (field_at a 12 - 0x10000000)) (done w (payload_of a) (accepts g (deed_at s w a g) k))) y
         (left_stored s w a g k q B l t z f keeps)

@@ -1,6 +1,6 @@
 -- The rows as they stood before RAM windows (02, L8), and what of them changed for a board without RAM: one answer. Proved in proofs/Before.antt.
 -- Assumes nothing.
-use Rattle.std.specs.Prelude.{ℕ, ◌+◌, ◌-◌, ◌*◌, ◌%◌, ◌≡◌, Bool, ◌&&◌, ◌||◌, not, cond, List, ltb, leb, eqb, length}
+use Rattle.std.specs.Prelude.{ℕ, ◌+◌, ◌-◌, ◌*◌, ◌%◌, ◌≡◌, Bool, ◌&&◌, ◌||◌, not, cond, List, ltb, leb, eqb, length, Option, Some, None, Ok, Err}
 use Rattle.memory.specs.Flash.{flash_length, payload_of}
 use Rattle.uf2_block.specs.Block.{field_at, has_flag, header_of}
 use Rattle.uf2_block.specs.declared.Block.{Block}
@@ -8,17 +8,14 @@ use Rattle.partitions.specs.Settings.{good_settings}
 use Rattle.partitions.specs.declared.Settings.{Settings}
 use Rattle.placement.specs.Place.{place_of}
 use Rattle.placement.specs.declared.Place.{Place}
-use Rattle.placement.specs.declared.Place.TheVariants.{Nowhere, At}
 use Rattle.transfer.specs.Transfer.{head_with, good_state}
 use Rattle.transfer.specs.declared.Kind.TheVariants.{Flash}
 use Rattle.transfer.specs.declared.State.{State}
 use Rattle.transfer.specs.declared.State.TheVariants.{Idle, Running, Done}
 use Rattle.transfer.specs.declared.Answer.TheVariants.{BadBuffers, BadSettings, BadState, NoPlace, BadPayload, BadNumbers, BadAddress}
-use Rattle.uf2_checks.specs.Screen.{after_header}
+use Rattle.uf2_checks.specs.Screen.{after_header, Screening}
 use Rattle.uf2_checks.specs.declared.Body.{Body}
 use Rattle.uf2_checks.specs.declared.Body.TheVariants.{Page, Note}
-use Rattle.uf2_checks.specs.declared.Screening.{Screening}
-use Rattle.uf2_checks.specs.declared.Screening.TheVariants.{Refused, Passed}
 use Rattle.arrival.specs.Arrive.{World, Outcome, outcome_number, Decision, stays, standing, after_screening, unchanged, done, receive_of}
 use Rattle.arrival.specs.Windows.{lies}
 
@@ -32,23 +29,23 @@ address_before size b = ltb b.address 0x10000000 || not (eqb (b.address % 256) 0
 
 -- a block that passes; every transfer is flash's
 abbrev pub passed_before : Body → Block → Screening
-passed_before body b = Passed (record { head = head_with Flash b.family b.total; number = b.number; body = body })
+passed_before body b = Ok (record { head = head_with Flash b.family b.total; number = b.number; body = body })
 
 -- rows 9 to 11 of data, and 10 of a comment
 unfoldable pub placed_before : ℕ → ℕ → Block → Screening
 placed_before start size b =
-    cond (not (eqb b.size 256)) (Refused BadPayload)
-    (cond (numbers_before size b) (Refused BadNumbers)
-    (cond (address_before size b) (Refused BadAddress)
+    cond (not (eqb b.size 256)) (Err BadPayload)
+    (cond (numbers_before size b) (Err BadNumbers)
+    (cond (address_before size b) (Err BadAddress)
     (passed_before (Page (start + (b.address - 0x10000000))) b)))
 
 unfoldable pub noted_before : ℕ → Block → Screening
-noted_before size b = cond (numbers_before size b) (Refused BadNumbers) (passed_before Note b)
+noted_before size b = cond (numbers_before size b) (Err BadNumbers) (passed_before Note b)
 
 -- rows 8 to 11
-unfoldable pub found_before : Place → Block → Screening
-found_before Nowhere b = Refused NoPlace
-found_before (At start size) b = cond b.comment (noted_before size b) (placed_before start size b)
+unfoldable pub found_before : Option Place → Block → Screening
+found_before None b = Err NoPlace
+found_before (Some p) b = cond b.comment (noted_before p.len b) (placed_before p.start p.len b)
 
 -- rows 4 to 11
 unfoldable pub screen_before : Settings → ℕ → List ℕ → Screening

@@ -1,11 +1,10 @@
 -- What one arrival leaves alone, and where a block lies that is let through, whatever the settings, the transfer, the buffers and the arrival.
 -- Proved in proofs/Bounds.antt. Assumes nothing.
-use Rattle.std.specs.Prelude.{ℕ, ◌+◌, ◌≤◌, ◌<◌, ◌≡◌, ◌⊎◌, true, false, List, length, get_or}
+use Rattle.std.specs.Prelude.{ℕ, ◌+◌, ◌≤◌, ◌<◌, ◌≡◌, ◌⊎◌, true, false, List, length, get_or, Option, Some, None}
 use Rattle.uf2_block.specs.Block.{field_at, has_flag}
 use Rattle.partitions.specs.declared.Settings.{Settings}
 use Rattle.placement.specs.Place.{place_of}
 use Rattle.placement.specs.declared.Place.{Place}
-use Rattle.placement.specs.declared.Place.TheVariants.{Nowhere, At}
 use Rattle.transfer.specs.Transfer.{number_of}
 use Rattle.arrival.specs.Arrive.{World, unchanged, receive_of}
 use Rattle.arrival.specs.Windows.{lies, has_buffer, kind_of}
@@ -17,9 +16,9 @@ RefusalsChangeNothing =
     → receive_of s w a ≡ unchanged w (receive_of s w a).answer
 
 -- byte j of the flash lies outside a place
-abbrev pub Outside : Place → ℕ → Type 0
-Outside Nowhere j = Unit {0}
-Outside (At start size) j = (j < start) ⊎ (start + size ≤ j)
+abbrev pub Outside : Option Place → ℕ → Type 0
+Outside None j = Unit {0}
+Outside (Some p) j = (j < p.start) ⊎ (p.start + p.len ≤ j)
 
 -- "Outside the place no byte changes."
 unfoldable pub OutsideKept : Type 0

@@ -1,10 +1,8 @@
 -- A plan performed gives the take's flash, and all else is the take's; what a plan touches. Proved in proofs/Claims.antt. Assumes nothing.
-use Rattle.std.specs.Prelude.{ℕ, ◌+◌, ◌*◌, ◌/◌, ◌%◌, ◌≤◌, ◌≡◌, Bool, false, ◌&&◌, ◌||◌, List, [], ◌∷◌, eqb, ltb, leb, length}
+use Rattle.std.specs.Prelude.{ℕ, ◌+◌, ◌*◌, ◌/◌, ◌%◌, ◌≤◌, ◌≡◌, Bool, false, ◌&&◌, ◌||◌, List, [], ◌∷◌, eqb, ltb, leb, length, Some}
 use Rattle.uf2_block.specs.Block.{field_at}
 use Rattle.partitions.specs.declared.Settings.{Settings}
-use Rattle.placement.specs.Place.{place_of}
-use Rattle.placement.specs.declared.Place.{Place}
-use Rattle.placement.specs.declared.Place.TheVariants.{At}
+use Rattle.placement.specs.Place.{place_of, place_from}
 use Rattle.arrival.specs.Arrive.{World, Outcome, receive_of}
 use Rattle.arrival_claims.specs.Bounds.{Outside}
 use Rattle.arrival.specs.Lists.{receive_all}
@@ -38,7 +36,7 @@ pub record Lies (s : Settings) (w : World) (a : List ℕ) (at : ℕ) : Type 0 wh
   pub aligned : at % 256 ≡ 0
   pub start : ℕ
   pub size : ℕ
-  pub place : place_of s (length w.held.flash) (field_at a 28) ≡ At start size
+  pub place : place_of s (length w.held.flash) (field_at a 28) ≡ Some (place_from start size)
   pub sectors : (start % 4096 ≡ 0) × (size % 4096 ≡ 0)
   pub from : start ≤ at
   pub to : at + 256 ≤ start + size

@@ -1,12 +1,11 @@
 -- What one stored flash page leaves, from any transfer, maps and flash (01, "One arrival"): "if the transfer was Idle, or Running with another family or
 -- total, both maps are first set to zero and the count starts at 0 .. If the storage sector isn't marked, all its 4,096 bytes become 0xFF and it is marked. The
 -- payload is stored, the number marked, the count raised; at the total the transfer is Done." Proved in proofs/Stored.antt. Assumes nothing.
-use Rattle.std.specs.Prelude.{ℕ, ◌+◌, ◌-◌, ◌/◌, ◌≤◌, ◌<◌, ◌≡◌, ◌⊎◌, ◌≢◌, Bool, true, false, cond, ◌&&◌, ◌||◌, List, eqb, ltb, length, get_or}
+use Rattle.std.specs.Prelude.{ℕ, ◌+◌, ◌-◌, ◌/◌, ◌≤◌, ◌<◌, ◌≡◌, ◌⊎◌, ◌≢◌, Bool, true, false, cond, ◌&&◌, ◌||◌, List, eqb, ltb, length, get_or, Some}
 use Rattle.memory.specs.Bitmap.{marked_in}
 use Rattle.uf2_block.specs.Block.{field_at, has_flag}
 use Rattle.partitions.specs.declared.Settings.{Settings}
-use Rattle.placement.specs.Place.{place_of}
-use Rattle.placement.specs.declared.Place.TheVariants.{At}
+use Rattle.placement.specs.Place.{place_of, place_from}
 use Rattle.transfer.specs.Transfer.{number_of}
 use Rattle.transfer.specs.declared.Kind.TheVariants.{Flash}
 use Rattle.transfer.specs.declared.Run.{Run}
@@ -46,5 +45,5 @@ pub record FlashStored (w : World) (a : List ℕ) (at : ℕ) (o : Outcome) : Typ
 unfoldable pub FlashStoredStated : Type 0
 FlashStoredStated =
     (s : Settings) (w : World) (a : List ℕ) (start size : ℕ) → has_flag a 0x1 ≡ false → kind_of w a ≡ Flash → (Standing s w a → ⊥)
-    → 14 ≤ number_of (receive_of s w a).answer → place_of s (length w.held.flash) (field_at a 28) ≡ At start size
+    → 14 ≤ number_of (receive_of s w a).answer → place_of s (length w.held.flash) (field_at a 28) ≡ Some (place_from start size)
     → FlashStored w a (start + (field_at a 12 - 0x10000000)) (receive_of s w a)

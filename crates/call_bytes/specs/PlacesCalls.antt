@@ -1,8 +1,7 @@
 -- What the call for a place answers and leaves. Assumes nothing.
-use Rattle.std.specs.Prelude.{ℕ, ◌<◌, ◌^◌, cond, List, ◌++◌, eqb, length}
-use Rattle.placement.specs.Place.{ask_of, place_answer_number}
-use Rattle.placement.specs.declared.PlaceAnswer.{PlaceAnswer}
-use Rattle.placement.specs.declared.PlaceAnswer.TheVariants.{BadBuffers, BadSettings, NoPlace, Found}
+use Rattle.std.specs.Prelude.{ℕ, ◌<◌, ◌^◌, cond, List, ◌++◌, eqb, length, Ok, Err}
+use Rattle.placement.specs.Place.{ask_of, place_answer_number, PlaceAnswer}
+use Rattle.placement.specs.declared.PlaceError.TheVariants.{BadBuffers, BadSettings, NoPlace}
 use Rattle.uf2_block.specs.Write.{le32}
 use Rattle.settings_layout.specs.Layout.{settings_from}
 
@@ -19,10 +18,10 @@ place_call n l = record { result = n; place = l }
 
 -- start and length of a place, written over `place`; a refusal leaves it (proofs/Places.antt: the two are read back from it)
 abbrev pub place_bytes : List ℕ → PlaceAnswer → List ℕ
-place_bytes l BadBuffers = l
-place_bytes l BadSettings = l
-place_bytes l NoPlace = l
-place_bytes l (Found a n) = le32 a ++ le32 n
+place_bytes l (Err BadBuffers) = l
+place_bytes l (Err BadSettings) = l
+place_bytes l (Err NoPlace) = l
+place_bytes l (Ok p) = le32 p.start ++ le32 p.len
 
 -- the refusal's number, and 0 for a place that is found
 abbrev pub place_call_of : List ℕ → PlaceAnswer → PlaceCall
@@ -30,10 +29,10 @@ place_call_of l x = place_call (place_answer_number x) (place_bytes l x)
 
 -- start and length fit 32 bits, as those of every place that is found do (proofs/Places.antt)
 abbrev pub Low : PlaceAnswer → Type 0
-Low BadBuffers = Unit
-Low BadSettings = Unit
-Low NoPlace = Unit
-Low (Found a n) = (a < 2 ^ 32) × (n < 2 ^ 32)
+Low (Err BadBuffers) = Unit
+Low (Err BadSettings) = Unit
+Low (Err NoPlace) = Unit
+Low (Ok p) = (p.start < 2 ^ 32) × (p.len < 2 ^ 32)
 
 -- 1 too where `place` has not 8 bytes
 unfoldable pub ask_bytes : List ℕ → ℕ → ℕ → List ℕ → PlaceCall

@@ -7,14 +7,10 @@ pub fn line(reader: &mut [u8], line: &[u8], image: &mut [u8]) -> u32
     ensures { line_return result reader.new image.new ≡ line_call_of reader.old line.now image.old }
 {
     let was = uhex_layout::reading::read_reader(reader);
-    let state = was.state;
     let read = uhex_reader::line(was, line, image);
-    let next = read.reader;
     let answer = read.answer;
-    uhex_layout::kept::keep_reader(
-        reader,
-        uhex_layout::kept::changes(uhex_layout::kept::has_failed(state), answer),
-        next,
-    );
+    let failed = uhex_layout::kept::has_failed(was.state);
+    let changed = uhex_layout::kept::changes(failed, answer);
+    uhex_layout::kept::keep_reader(reader, changed, read.reader);
     answer.number() as u32 + 256 * (answer.position() as u32)
 }

@@ -24,7 +24,7 @@ fn good(bytes: &[u8], flash_len: usize) -> bool
 }
 
 // The place of a family.
-fn place(bytes: &[u8], flash_len: usize, family: u32) -> Place
+fn place(bytes: &[u8], flash_len: usize, family: u32) -> Option<Place>
     requires { count_from bytes.now ≡ 0 }
     ensures value { result ≡ place_of (settings_from bytes.now) flash_len family }
     ensures low { StartsLow result }

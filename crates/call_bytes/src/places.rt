@@ -2,23 +2,23 @@
 ghost use Rattle.std.specs.Prelude.{◌≡◌, length};
 ghost use Rattle.call_bytes.specs.PlacesCalls.{Low, place_call, place_call_of, ask_bytes};
 
-use placement::PlaceAnswer;
+use placement::{Place, PlaceError};
 
 // The bytes of a place: its start and its length.
 const PLACE: usize = 8;
 
 // Writes the place that was found.
-fn tell(asked: PlaceAnswer, place: &mut [u8]) -> u32
+fn tell(asked: Result<Place, PlaceError>, place: &mut [u8]) -> u32
     requires place_len { length place.old ≡ 8 }
     requires low { Low asked }
     ensures { place_call result place.new ≡ place_call_of place.old asked }
 {
     let n = placement::number(asked) as u32;
-    let PlaceAnswer::Found { start, len } = asked else {
+    let Ok(found) = asked else {
         return n;
     };
-    uf2_block::put(place, 0, start as u32);
-    uf2_block::put(place, 4, len as u32);
+    uf2_block::put(place, 0, found.start as u32);
+    uf2_block::put(place, 4, found.len as u32);
     n
 }
 

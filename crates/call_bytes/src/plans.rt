@@ -21,6 +21,7 @@ struct Words {
 }
 
 // The low 32 bits. Of a plan's numbers they are the whole (proofs/Laws.antt, `plan_low`).
+// Kept, no plainer: a cast must lose no bits, so that the remainder stands in any case.
 fn low(x: usize) -> u32
     ensures { result ≡ x % 4294967296 }
 {

@@ -9,24 +9,25 @@ use lib.ListN.{length, get_or, take, drop}
 use lib.Seq.{get_or-drop}
 use borrow.Author.Tests.{ltb-false, eqb-true, eqb-false, not-false}
 use Rattle.laws.proofs.Tests.{split, clash, or_left, or_right}
-use Rattle.ihex_record.specs.Record.{text_of, bytes_of, len_of, data_of, word_of, read_of, bytes_by}
+use Rattle.ihex_record.specs.Record.{ParseResult, text_of, bytes_of, len_of, data_of, word_of, read_of, bytes_by}
 use Rattle.ihex_record.specs.Write.{Bytes}
 use Rattle.ihex_record.specs.declared.Record.{Record}
-use Rattle.ihex_record.specs.declared.ParseResult.{ParseResult}
-use Rattle.ihex_record.specs.declared.ParseResult.TheVariants as parsed
+use Rattle.std.specs.Prelude.{Option, Some, None, Result, Ok, Err}
+use Rattle.ihex_record.specs.declared.LineError.TheVariants as error
 use Rattle.ihex_record.proofs.Good.{good_line}
 use Rattle.ihex_record.proofs.Positions.{bad_position_lem}
 use Rattle.ihex_record.proofs.Data32.{get_d_data32}
 use Rattle.uhex_grammar.specs.Answers.{position_of}
+use Rattle.uhex_grammar.specs.declared.Answer.{Answer}
 use Rattle.uhex_grammar.specs.Boards.{is_v1, is_v2, has_board, both_boards}
 use Rattle.uhex_grammar.specs.Grammar.{is_extended_linear, is_end_of_file, is_block_start, data_kind, after_padding, role_of}
 use Rattle.uhex_grammar.specs.declared.ReaderState.{ReaderState}
 use Rattle.uhex_grammar.specs.declared.ReaderState.TheVariants.{Between, Opened, Inside, Padded, Ended, Failed}
 use Rattle.uhex_grammar.specs.declared.Role.{Role}
-use Rattle.uhex_grammar.specs.declared.Role.TheVariants.{Opening, Naming, Address, Data, Padding, Other, Closing, Ending, Refused}
+use Rattle.uhex_grammar.specs.declared.Role.TheVariants.{Opening, Naming, Address, Data, Padding, Other, Closing, Ending}
 use Rattle.uhex_effects.specs.declared.Reader.{Reader}
 use Rattle.uhex_effects.specs.declared.Effect.{Effect}
-use Rattle.uhex_effects.specs.declared.Effect.TheVariants.{Fails, Passes, Stores, Ends}
+use Rattle.uhex_effects.specs.declared.Effect.TheVariants.{Passes, Stores, Ends}
 use Rattle.uhex_reader.specs.Reader.{bad_failure, bad_reader, with_state, with_upper, with_section, with_data, moved_to, given_of, effect_of}
 use Rattle.uhex_reader.specs.Line.{LineOutcome, outside, storing, effect_outcome, record_outcome, parsed_line, live_line, halt_of, halt_line, bad_image, line_of}
 use Rattle.uhex_claims.specs.Facts.{StaysGood}
@@ -66,7 +67,7 @@ take_low (suc n) [] h i = omega arith
 take_low (suc n) (x ∷ d) h zero = h zero
 take_low (suc n) (x ∷ d) h (suc i) = take_low n d (λ j. h (suc j)) i
 
-word_low : (l : List ℕ) (rec : Record) → (read_of l).parsed ≡ parsed.Good rec → word_of (read_of l).«data» < 2 ^ 16
+word_low : (l : List ℕ) (rec : Record) → (read_of l).parsed ≡ Ok rec → word_of (read_of l).«data» < 2 ^ 16
 word_low l rec e =
     let b = bytes_of (drop 1 (text_of l)) in
     let d : Low (data_of b) = take_low (len_of b) (drop 4 b) (λ i. rw (get_or-drop 4 b i 0) (digits_low (drop 1 (text_of l)) (4 + i))) in
@@ -78,16 +79,16 @@ abbrev Narrow : Reader → Type 0
 Narrow r = (r.upper < 2 ^ 16) × SmallState r.state
 
 -- what a record is names no other board
-abbrev NarrowRole : Role → Type 0
-NarrowRole Opening = Unit {0}
-NarrowRole Naming = Unit {0}
-NarrowRole Address = Unit {0}
-NarrowRole (Data b) = Unit {0}
-NarrowRole (Padding b) = b < 2 ^ 16
-NarrowRole Other = Unit {0}
-NarrowRole Closing = Unit {0}
-NarrowRole Ending = Unit {0}
-NarrowRole Refused = Unit {0}
+abbrev NarrowRole : Option Role → Type 0
+NarrowRole (Some Opening) = Unit {0}
+NarrowRole (Some Naming) = Unit {0}
+NarrowRole (Some Address) = Unit {0}
+NarrowRole (Some (Data b)) = Unit {0}
+NarrowRole (Some (Padding b)) = b < 2 ^ 16
+NarrowRole (Some Other) = Unit {0}
+NarrowRole (Some Closing) = Unit {0}
+NarrowRole (Some Ending) = Unit {0}
+NarrowRole None = Unit {0}
 
 after_narrow : (board kind : ℕ) → board < 2 ^ 16 → NarrowRole (after_padding board kind)
 unfolding after_padding
@@ -104,50 +105,50 @@ role_narrow (Padded b) kind len h = after_narrow b kind h
 role_narrow Ended kind len h = tt
 role_narrow (Failed f) kind len h = tt
 
-abbrev NarrowStep : Effect → Type 0
-NarrowStep (Fails a) = position_of a < 2 ^ 16
-NarrowStep (Passes q) = Narrow q
-NarrowStep (Stores q) = Narrow q
-NarrowStep (Ends q) = Narrow q
+abbrev NarrowStep : Result Effect Answer → Type 0
+NarrowStep (Err a) = position_of a < 2 ^ 16
+NarrowStep (Ok (Passes q)) = Narrow q
+NarrowStep (Ok (Stores q)) = Narrow q
+NarrowStep (Ok (Ends q)) = Narrow q
 
 module _ (r : Reader) (h : Narrow r) where
-  step_narrow : (x : Role) (address len word : ℕ) → NarrowRole x → word < 2 ^ 16 → NarrowStep (effect_of r x address len word)
+  step_narrow : (x : Option Role) (address len word : ℕ) → NarrowRole x → word < 2 ^ 16 → NarrowStep (effect_of r x address len word)
   unfolding effect_of given_of with_state with_upper with_section with_data
-  step_narrow Opening address len word n w = either NarrowStep (not (eqb (r.offset % 512) 0)) (omega arith) (w, tt)
-  step_narrow Naming address len word n w = either NarrowStep (has_board r.sections_seen word) (omega arith) (h.0, w)
-  step_narrow Address address len word n w = (w, h.1)
-  step_narrow (Data b) address len word n w =
+  step_narrow (Some Opening) address len word n w = either NarrowStep (not (eqb (r.offset % 512) 0)) (omega arith) (w, tt)
+  step_narrow (Some Naming) address len word n w = either NarrowStep (has_board r.sections_seen word) (omega arith) (h.0, w)
+  step_narrow (Some Address) address len word n w = (w, h.1)
+  step_narrow (Some (Data b)) address len word n w =
       either NarrowStep (ltb 65536 (address + len)) (omega arith)
-      (either NarrowStep (eqb len 0) h (either NarrowStep (eqb b r.own) h h))
-  step_narrow (Padding b) address len word n w = (h.0, n)
-  step_narrow Other address len word n w = h
-  step_narrow Closing address len word n w = (h.0, tt)
-  step_narrow Ending address len word n w = either NarrowStep (both_boards r.data_seen) (h.0, tt) (omega arith)
-  step_narrow Refused address len word n w = omega arith
+      (either (λ (t : Effect). NarrowStep (Ok t)) (eqb len 0) h (either (λ (t : Effect). NarrowStep (Ok t)) (eqb b r.own) h h))
+  step_narrow (Some (Padding b)) address len word n w = (h.0, n)
+  step_narrow (Some Other) address len word n w = h
+  step_narrow (Some Closing) address len word n w = (h.0, tt)
+  step_narrow (Some Ending) address len word n w = either NarrowStep (both_boards r.data_seen) (h.0, tt) (omega arith)
+  step_narrow None address len word n w = omega arith
 
   abbrev NarrowOut : LineOutcome → Type 0
   NarrowOut o = Narrow o.reader
 
-  stepped_narrow : (rec : Record) (d : List ℕ) (e : ℕ) (img : List ℕ) (x : Effect) → NarrowStep x → NarrowOut (effect_outcome r rec d e img x)
+  stepped_narrow : (rec : Record) (d : List ℕ) (e : ℕ) (img : List ℕ) (x : Result Effect Answer) → NarrowStep x → NarrowOut (effect_outcome r rec d e img x)
   unfolding effect_outcome storing moved_to with_state
-  stepped_narrow rec d e img (Fails a) n = (h.0, n)
-  stepped_narrow rec d e img (Passes q) n = n
-  stepped_narrow rec d e img (Stores q) n = either NarrowOut (outside q rec img) n n
-  stepped_narrow rec d e img (Ends q) n = n
+  stepped_narrow rec d e img (Err a) n = (h.0, n)
+  stepped_narrow rec d e img (Ok (Passes q)) n = n
+  stepped_narrow rec d e img (Ok (Stores q)) n = either NarrowOut (outside q rec img) n n
+  stepped_narrow rec d e img (Ok (Ends q)) n = n
 
   module _ (l img : List ℕ) where
     parsed-narrow : (e : ℕ) (p : ParseResult) → (read_of l).parsed ≡ p → NarrowOut (parsed_line r (read_of l).«data» e img p)
     unfolding parsed_line record_outcome with_state
-    parsed-narrow e (parsed.Good rec) q =
+    parsed-narrow e (Ok rec) q =
         stepped_narrow rec (read_of l).«data» e img _
         (step_narrow (role_of r.state rec.kind rec.len) rec.address rec.len (word_of (read_of l).«data»)
         (role_narrow r.state rec.kind rec.len h.1) (word_low l rec q))
-    parsed-narrow e parsed.NoColon q = (h.0, omega arith)
-    parsed-narrow e parsed.BadShape q = (h.0, omega arith)
-    parsed-narrow e (parsed.BadDigit k) q = (h.0, omega (arith, bad_position_lem l k q))
-    parsed-narrow e parsed.TooLong q = (h.0, omega arith)
-    parsed-narrow e parsed.BadLength q = (h.0, omega arith)
-    parsed-narrow e parsed.BadSum q = (h.0, omega arith)
+    parsed-narrow e (Err error.NoColon) q = (h.0, omega arith)
+    parsed-narrow e (Err error.BadShape) q = (h.0, omega arith)
+    parsed-narrow e (Err (error.BadDigit k)) q = (h.0, omega (arith, bad_position_lem l k q))
+    parsed-narrow e (Err error.TooLong) q = (h.0, omega arith)
+    parsed-narrow e (Err error.BadLength) q = (h.0, omega arith)
+    parsed-narrow e (Err error.BadSum) q = (h.0, omega arith)
 
     live-narrow : NarrowOut (live_line r l img)
     unfolding live_line with_state

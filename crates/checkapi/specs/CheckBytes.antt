@@ -1,41 +1,40 @@
 -- What the call for a file returns and writes. Assumes nothing.
-use Rattle.std.specs.Prelude.{ℕ, ◌/◌, ◌%◌, cond, List, eqb, length}
+use Rattle.std.specs.Prelude.{ℕ, ◌/◌, ◌%◌, cond, List, eqb, length, Ok, Err}
 use Rattle.uf2_block.specs.Write.{put_at}
-use Rattle.file_check.specs.declared.Checked.{Checked}
-use Rattle.file_check.specs.declared.Checked.TheVariants.{BadBuffers, BadSettings, Ragged, Empty, Refused, OtherFamily, OtherTotal, OtherKind, SameNumber, Overlap, Missing, Guarded, Valid}
-use Rattle.file_check.specs.Check.{checked_number}
+use Rattle.file_check.specs.declared.FileFault.TheVariants.{BadBuffers, BadSettings, Ragged, Empty, Refused, OtherFamily, OtherTotal, OtherKind, SameNumber, Overlap, Missing, Guarded}
+use Rattle.file_check.specs.Check.{Checked, checked_number}
 
 -- the piece with which something is wrong, and of a missing block its number; 0 where there is none
 abbrev pub piece_told : Checked → ℕ
-piece_told BadBuffers = 0
-piece_told BadSettings = 0
-piece_told Ragged = 0
-piece_told Empty = 0
-piece_told (Refused i x) = i
-piece_told (OtherFamily i) = i
-piece_told (OtherTotal i) = i
-piece_told (OtherKind i) = i
-piece_told (SameNumber i j) = i
-piece_told (Overlap i j) = i
-piece_told (Missing k) = k
-piece_told (Guarded i) = i
-piece_told Valid = 0
+piece_told (Err BadBuffers) = 0
+piece_told (Err BadSettings) = 0
+piece_told (Err Ragged) = 0
+piece_told (Err Empty) = 0
+piece_told (Err (Refused i x)) = i
+piece_told (Err (OtherFamily i)) = i
+piece_told (Err (OtherTotal i)) = i
+piece_told (Err (OtherKind i)) = i
+piece_told (Err (SameNumber i j)) = i
+piece_told (Err (Overlap i j)) = i
+piece_told (Err (Missing k)) = k
+piece_told (Err (Guarded i)) = i
+piece_told (Ok u) = 0
 
 -- the earlier piece that it collides with
 abbrev pub other_told : Checked → ℕ
-other_told BadBuffers = 0
-other_told BadSettings = 0
-other_told Ragged = 0
-other_told Empty = 0
-other_told (Refused i x) = 0
-other_told (OtherFamily i) = 0
-other_told (OtherTotal i) = 0
-other_told (OtherKind i) = 0
-other_told (SameNumber i j) = j
-other_told (Overlap i j) = j
-other_told (Missing k) = 0
-other_told (Guarded i) = 0
-other_told Valid = 0
+other_told (Err BadBuffers) = 0
+other_told (Err BadSettings) = 0
+other_told (Err Ragged) = 0
+other_told (Err Empty) = 0
+other_told (Err (Refused i x)) = 0
+other_told (Err (OtherFamily i)) = 0
+other_told (Err (OtherTotal i)) = 0
+other_told (Err (OtherKind i)) = 0
+other_told (Err (SameNumber i j)) = j
+other_told (Err (Overlap i j)) = j
+other_told (Err (Missing k)) = 0
+other_told (Err (Guarded i)) = 0
+other_told (Ok u) = 0
 
 -- both as 64 bits, the lowest byte first
 unfoldable pub numbers_over : List ℕ → ℕ → ℕ → List ℕ

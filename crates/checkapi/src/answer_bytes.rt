@@ -2,7 +2,7 @@
 ghost use Rattle.std.specs.Prelude.{◌≡◌};
 ghost use Rattle.checkapi.specs.CheckBytes.{piece_told, other_told, numbers_over, call_return, check_call};
 
-use file_check::Checked;
+use file_check::FileFault;
 
 // The bytes of what is told.
 const TOLD: usize = 16;
@@ -10,44 +10,34 @@ const TOLD: usize = 16;
 const WORD: usize = 4294967296;
 
 // The piece with which something is wrong; of a missing block its number.
-fn piece_told(x: Checked) -> usize
+fn piece_told(x: Result<(), FileFault>) -> usize
     ensures { result ≡ piece_told x }
 {
     match x {
-        Checked::BadBuffers => 0,
-        Checked::BadSettings => 0,
-        Checked::Ragged => 0,
-        Checked::Empty => 0,
-        Checked::Refused(i, _) => i,
-        Checked::OtherFamily(i) => i,
-        Checked::OtherTotal(i) => i,
-        Checked::OtherKind(i) => i,
-        Checked::SameNumber(i, _) => i,
-        Checked::Overlap(i, _) => i,
-        Checked::Missing(k) => k,
-        Checked::Guarded(i) => i,
-        Checked::Valid => 0,
+        Ok(()) => 0,
+        Err(FileFault::BadBuffers) => 0,
+        Err(FileFault::BadSettings) => 0,
+        Err(FileFault::Ragged) => 0,
+        Err(FileFault::Empty) => 0,
+        Err(FileFault::Refused(i, _)) => i,
+        Err(FileFault::OtherFamily(i)) => i,
+        Err(FileFault::OtherTotal(i)) => i,
+        Err(FileFault::OtherKind(i)) => i,
+        Err(FileFault::SameNumber(i, _)) => i,
+        Err(FileFault::Overlap(i, _)) => i,
+        Err(FileFault::Missing(k)) => k,
+        Err(FileFault::Guarded(i)) => i,
     }
 }
 
 // The earlier piece that it collides with.
-fn other_told(x: Checked) -> usize
+fn other_told(x: Result<(), FileFault>) -> usize
     ensures { result ≡ other_told x }
 {
     match x {
-        Checked::BadBuffers => 0,
-        Checked::BadSettings => 0,
-        Checked::Ragged => 0,
-        Checked::Empty => 0,
-        Checked::Refused(_, _) => 0,
-        Checked::OtherFamily(_) => 0,
-        Checked::OtherTotal(_) => 0,
-        Checked::OtherKind(_) => 0,
-        Checked::SameNumber(_, j) => j,
-        Checked::Overlap(_, j) => j,
-        Checked::Missing(_) => 0,
-        Checked::Guarded(_) => 0,
-        Checked::Valid => 0,
+        Err(FileFault::SameNumber(_, j)) => j,
+        Err(FileFault::Overlap(_, j)) => j,
+        _ => 0,
     }
 }
 
@@ -66,7 +56,7 @@ fn put_numbers(told: &mut [u8], piece: usize, other: usize)
 }
 
 // What a call returns of what a file comes to, which it writes. Without bytes for that nothing is written.
-pub fn tell(found: Checked, told: &mut [u8]) -> u32
+pub fn tell(found: Result<(), FileFault>, told: &mut [u8]) -> u32
     ensures { call_return result told.new ≡ check_call found told.old }
 {
     if told.len() != TOLD {
@@ -75,5 +65,5 @@ pub fn tell(found: Checked, told: &mut [u8]) -> u32
     let piece = piece_told(found);
     let other = other_told(found);
     put_numbers(told, piece, other);
-    found.number() as u32
+    u32::from(file_check::number(found))
 }

@@ -8,6 +8,7 @@ use native.Mathlib.Omega.{arith}
 use lib.Dec.{eqb, ltb}
 use lib.ListN.{length, get_or}
 use borrow.Author.Tests.{eq-eqb, ne_eqb, eqb-true, eqb-false, ltb-true, ltb-false, le-leb, lt-leb}
+use Rattle.std.specs.Prelude.{Option, Some, None}
 use Rattle.laws.specs.Sets.{Set, none, add, size}
 use Rattle.laws.proofs.Tests.{split}
 use Rattle.laws.proofs.Laws.{add_idle, size_le, size_add, size_full}
@@ -15,7 +16,6 @@ use Rattle.memory.specs.Bitmap.{map_of}
 use Rattle.partitions.specs.declared.Settings.{Settings}
 use Rattle.placement.specs.Place.{place_of}
 use Rattle.placement.specs.declared.Place.{Place}
-use Rattle.placement.specs.declared.Place.TheVariants.{Nowhere, At}
 use Rattle.uf2_block.specs.Block.{field_at, has_flag}
 use Rattle.uf2_block.specs.Region.{region_of}
 use Rattle.uf2_block.specs.Regions.{good_region}
@@ -300,11 +300,11 @@ module _ (s : Settings) (w : World) (F : File) (idle : w.transfer ≡ Idle) (ok 
   -- ---- without regions
 
   -- a block with no region that counts does not stand in the flash
-  place_out : (f : List ℕ) (k : ℕ) (p : Place) → has_flag (F.block k) 0x4000 && good_region (size_of p) (field_at (F.block k) 12) (region_of (F.block k)) ≡ false
+  place_out : (f : List ℕ) (k : ℕ) (p : Option Place) → has_flag (F.block k) 0x4000 && good_region (size_of p) (field_at (F.block k) 12) (region_of (F.block k)) ≡ false
       → stands_at f p (F.block k) ≡ false
   unfolding stands_at
-  place_out f k Nowhere e = refl
-  place_out f k (At start size) e = rw e
+  place_out f k None e = refl
+  place_out f k (Some p) e = rw e
 
   pub unkept : Plain s w F → Unkept P w.held
   unkept plain f k h y n =

@@ -9,25 +9,23 @@ use native.Mathlib.Omega.{arith}
 use lib.Dec.{eqb}
 use lib.ListN.{length}
 use borrow.Author.Tests.{not-true}
+use Rattle.std.specs.Prelude.{Some, Ok, Err}
 use Rattle.laws.proofs.Tests.{split, clash}
 use Rattle.uf2_block.specs.Block.{field_at, has_flag, fields_of, header_of}
 use Rattle.memory.specs.Flash.{payload_of, spans}
 use Rattle.memory.proofs.flash.Laws.{length_right}
 use Rattle.partitions.specs.declared.Settings.{Settings}
-use Rattle.placement.specs.Place.{place_of}
-use Rattle.placement.specs.declared.Place.TheVariants.{At}
+use Rattle.placement.specs.Place.{place_of, place_from}
 use Rattle.placement.proofs.Theorems.{place_inside}
 use Rattle.transfer.specs.Transfer.{same_kind, head_with, number_of, accepted, step_of}
 use Rattle.transfer.specs.declared.Kind.{Kind}
 use Rattle.transfer.specs.declared.Kind.TheVariants.{Flash}
 use Rattle.transfer.specs.declared.State.{State}
 use Rattle.transfer.specs.declared.State.TheVariants.{Idle}
-use Rattle.uf2_checks.specs.Screen.{note_kind, rooms_of, room_in, screen_of}
+use Rattle.uf2_checks.specs.Screen.{note_kind, rooms_of, room_in, screen_of, Screening}
 use Rattle.uf2_checks.specs.declared.Lengths.{Lengths}
 use Rattle.uf2_checks.specs.declared.Body.TheVariants.{Page}
 use Rattle.uf2_checks.specs.declared.PlacedBlock.{PlacedBlock}
-use Rattle.uf2_checks.specs.declared.Screening.{Screening}
-use Rattle.uf2_checks.specs.declared.Screening.TheVariants.{Refused, Passed}
 use Rattle.arrival.specs.Arrive.{World, Outcome, buffer_of, standing, deed_of, unchanged, done, receive_of}
 use Rattle.arrival.specs.Windows.{window_start, window_end, kind_of}
 use Rattle.demand.specs.Demand.{File, answer_number, is_data, address_of, ValidFile, is_found, Foreign, origin_of, storage_of, head_in}
@@ -62,7 +60,7 @@ blocks_of s w F = record { file = F; at = λ k. storage_of s w F k; stands = λ 
 pub record Located (s : Settings) (w : World) (F : File) : Type 0 where
   pub start : ℕ
   pub size : ℕ
-  pub place : place_of s (flash_of w) F.family ≡ At start size
+  pub place : place_of s (flash_of w) F.family ≡ Some (place_from start size)
   pub first : start % 4096 ≡ 0
   pub within : start + size ≤ flash_of w
 
@@ -72,15 +70,15 @@ module _ (s : Settings) (w : World) (F : File) (idle : w.transfer ≡ Idle) (ok 
 
   -- the answer to an arrival at the start, by what it is screened to
   abbrev Earned : List ℕ → Screening → Type 0
-  Earned a (Refused x) = (receive_of s w a).answer ≡ x
-  Earned a (Passed g) = 14 ≤ answer_number s w a
+  Earned a (Err x) = (receive_of s w a).answer ≡ x
+  Earned a (Ok g) = 14 ≤ answer_number s w a
 
   first : (a : List ℕ) → length a ≡ 512 → (x : Screening) → screen_of s (lens w) w.transfer a ≡ x → Earned a x
-  first a l (Refused x) e = ap (λ (o : Outcome). o.answer) (receive_refused s w a board l x e)
-  first a l (Passed g) e = rw (receive_passed s w a board l g e) (unfold arrive step_of done accepted in rw idle (raised_number (deed_of (standing s w.held.flash a) g) g.head 1))
+  first a l (Err x) e = ap (λ (o : Outcome). o.answer) (receive_refused s w a board l x e)
+  first a l (Ok g) e = rw (receive_passed s w a board l g e) (unfold arrive step_of done accepted in rw idle (raised_number (deed_of (standing s w.held.flash a) g) g.head 1))
 
   -- a block of the file passes
-  passed : (k : ℕ) → k < F.total → (g : PlacedBlock) × (screen_of s (lens w) w.transfer (F.block k) ≡ Passed g) × Passing s w (F.block k) g
+  passed : (k : ℕ) → k < F.total → (g : PlacedBlock) × (screen_of s (lens w) w.transfer (F.block k) ≡ Ok g) × Passing s w (F.block k) g
   passed k h = go (screen_of s (lens w) w.transfer a) refl (screen_good s w a)
     where
       a : List ℕ
@@ -90,9 +88,9 @@ module _ (s : Settings) (w : World) (F : File) (idle : w.transfer ≡ Idle) (ok 
       l = (earned s w a (omega (arith, ok.passes k h))).1
 
       go : (x : Screening) → screen_of s (lens w) w.transfer a ≡ x → Good s w a x
-          → (g : PlacedBlock) × (screen_of s (lens w) w.transfer a ≡ Passed g) × Passing s w a g
-      go (Refused x) e n = absurd (omega (arith, n, ok.passes k h, ap number_of (first a l (Refused x) e)))
-      go (Passed g) e n = (g, e, n)
+          → (g : PlacedBlock) × (screen_of s (lens w) w.transfer a ≡ Ok g) × Passing s w a g
+      go (Err x) e n = absurd (omega (arith, n, ok.passes k h, ap number_of (first a l (Err x) e)))
+      go (Ok g) e n = (g, e, n)
 
   pub block_size : (k : ℕ) → k < F.total → length (F.block k) ≡ 512
   block_size k h = (earned s w (F.block k) (omega (arith, ok.passes k h))).1
@@ -147,13 +145,13 @@ module _ (s : Settings) (w : World) (F : File) (idle : w.transfer ≡ Idle) (ok 
   located flat =
       let p = (passed 0 ok.some).2 in
       let k : kind_of w (F.block 0) ≡ Flash = kind_is 0 ok.some ∙ flat in
-      let e : place_of s (flash_of w) F.family ≡ At p.start p.size =
+      let e : place_of s (flash_of w) F.family ≡ Some (place_from p.start p.size) =
       sym (λ i. room_in (rooms_of s (flash_of w) (ok.families 0 ok.some i)) (k i)) ∙ p.place in
       let i = place_inside s (flash_of w) F.family board.flash board.good p.start p.size e in
       record { start = p.start; size = p.size; place = e; first = i.0; within = i.2 }
 
-  pub screen_block : (k : ℕ) → k < F.total → screen_of s (lens w) w.transfer (F.block k) ≡ Passed (placed_of (blocks_of s w F) k)
-  screen_block k h = (passed k h).1 ∙ ap Passed (placed_is k h)
+  pub screen_block : (k : ℕ) → k < F.total → screen_of s (lens w) w.transfer (F.block k) ≡ Ok (placed_of (blocks_of s w F) k)
+  screen_block k h = (passed k h).1 ∙ ap Ok (placed_is k h)
 
   pub valid : Valid (blocks_of s w F) w.held
   valid =
@@ -197,15 +195,15 @@ module _ (s : Settings) (w : World) (F : File) (idle : w.transfer ≡ Idle) (ok 
 
   -- ---- a foreign arrival
 
-  pub screen_foreign : (a : List ℕ) → Foreign s w F a → (screen_of s (lens w) w.transfer a ≡ Refused (receive_of s w a).answer) × (length a ≡ 512)
+  pub screen_foreign : (a : List ℕ) → Foreign s w F a → (screen_of s (lens w) w.transfer a ≡ Err (receive_of s w a).answer) × (length a ≡ 512)
   screen_foreign a f = (go (screen_of s (lens w) w.transfer a) refl, l)
     where
       l : length a ≡ 512
       l = (earned s w a f.least).1
 
-      go : (x : Screening) → screen_of s (lens w) w.transfer a ≡ x → screen_of s (lens w) w.transfer a ≡ Refused (receive_of s w a).answer
-      go (Refused x) e = e ∙ ap Refused (sym (first a l (Refused x) e))
-      go (Passed g) e = absurd (omega (arith, f.most, first a l (Passed g) e))
+      go : (x : Screening) → screen_of s (lens w) w.transfer a ≡ x → screen_of s (lens w) w.transfer a ≡ Err (receive_of s w a).answer
+      go (Err x) e = e ∙ ap Err (sym (first a l (Err x) e))
+      go (Ok g) e = absurd (omega (arith, f.most, first a l (Ok g) e))
 
   -- ---- what is screened stays so all through a list
 

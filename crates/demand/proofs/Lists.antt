@@ -5,6 +5,7 @@ use mathlib.Core.Bool.{Bool, true, false, cond}
 use mathlib.Core.List.{List, [], ◌∷◌}
 use native.Mathlib.Omega.{arith}
 use lib.ListN.{length}
+use Rattle.std.specs.Prelude.{Ok, Err}
 use Rattle.memory.specs.Flash.{flash_length, payload_of}
 use Rattle.partitions.specs.declared.Settings.{Settings}
 use Rattle.partitions.specs.Settings.{good_settings}
@@ -15,7 +16,6 @@ use Rattle.transfer.specs.declared.Answer.{Answer}
 use Rattle.uf2_checks.specs.Screen.{screen_of}
 use Rattle.uf2_checks.specs.declared.Lengths.{Lengths}
 use Rattle.uf2_checks.specs.declared.PlacedBlock.{PlacedBlock}
-use Rattle.uf2_checks.specs.declared.Screening.TheVariants.{Refused, Passed}
 use Rattle.arrival.specs.Arrive.{World, Decision, ram_length, standing, after_screening, accept_of, unchanged, done, receive_of}
 use Rattle.arrival.specs.Facts.{LengthsKept, ArrivalsKeepLengths}
 use Rattle.arrival.specs.Lists.{receive_all}
@@ -28,13 +28,13 @@ use Rattle.arrival.proofs.Facts.{arrivals_keep_lengths}
 -- ---- an arrival that has passed rows 1 to 3, by what it is screened to
 
 module _ (s : Settings) (w : World) (a : List ℕ) (B : Board s w) (l : length a ≡ 512) where
-  pub receive_refused : (x : Answer) → screen_of s (lens w) w.transfer a ≡ Refused x → receive_of s w a ≡ unchanged w x
+  pub receive_refused : (x : Answer) → screen_of s (lens w) w.transfer a ≡ Err x → receive_of s w a ≡ unchanged w x
   unfolding receive_of
   receive_refused x e =
       ap (done w (payload_of a)) (board_decides s w a B l ∙ ap (after_screening w.transfer w.seen (standing s w.held.flash a)) e)
       ∙ unfold after_screening done in refl
 
-  pub receive_passed : (p : PlacedBlock) → screen_of s (lens w) w.transfer a ≡ Passed p → receive_of s w a ≡ arrive w (standing s w.held.flash a) p a
+  pub receive_passed : (p : PlacedBlock) → screen_of s (lens w) w.transfer a ≡ Ok p → receive_of s w a ≡ arrive w (standing s w.held.flash a) p a
   unfolding receive_of
   receive_passed p e =
       ap (done w (payload_of a)) (board_decides s w a B l ∙ ap (after_screening w.transfer w.seen (standing s w.held.flash a)) e)

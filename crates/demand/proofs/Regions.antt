@@ -9,6 +9,7 @@ use lib.Dec.{leb, ltb}
 use lib.ListN.{length, get_or, take, drop, length-drop}
 use lib.Seq.{get_or-take, get_or-drop, length-take-le, ext_get_or}
 use borrow.Author.Tests.{le-leb, lt-ltb, leb-true, ltb-true}
+use Rattle.std.specs.Prelude.{Option, Some}
 use Rattle.laws.specs.Sets.{Set, none, size, any}
 use Rattle.laws.proofs.Tests.{split, and_left, and_right, both}
 use Rattle.laws.proofs.Laws.{any_none, any_all, any_found, any_cong, size_full}
@@ -19,9 +20,8 @@ use Rattle.md5_digest.specs.declared.Digest.{Digest}
 use Rattle.uf2_block.specs.Regions.{good_region, same_digest, part_of, stands_in}
 use Rattle.uf2_block.proofs.regions.Laws.{Counting, good_yes, good_true, stands_there, stands_true, digest_true, digest_yes}
 use Rattle.partitions.specs.declared.Settings.{Settings}
-use Rattle.placement.specs.Place.{place_of}
+use Rattle.placement.specs.Place.{place_of, place_from}
 use Rattle.placement.specs.declared.Place.{Place}
-use Rattle.placement.specs.declared.Place.TheVariants.{At}
 use Rattle.memory.specs.Flash.{payload_of, spans}
 use Rattle.transfer.specs.Transfer.{same_kind}
 use Rattle.transfer.specs.declared.Kind.{Kind}
@@ -106,14 +106,14 @@ module _ (s : Settings) (w : World) (F : File) (idle : w.transfer ≡ Idle) (ok 
         flag = and_right (a && b) c e;
         counting =
             good_true L.size (address_of F i) (region_of (F.block i))
-            (ap (λ (p : Place). good_region (size_of p) (address_of F i) (region_of (F.block i))) (sym L.place) ∙ and_right (a && b && c) d g);
+            (ap (λ (p : Option Place). good_region (size_of p) (address_of F i) (region_of (F.block i))) (sym L.place) ∙ and_right (a && b && c) d g);
       }
 
   guarded_is : (i : ℕ) → is_data F i ≡ true → has_flag (F.block i) 0x4000 ≡ true → Counting L.size (address_of F i) (region_of (F.block i))
       → is_guarded s w F i ≡ true
   guarded_is i y f c =
       both (both (both there y) f)
-      (ap (λ (p : Place). good_region (size_of p) (address_of F i) (region_of (F.block i))) L.place
+      (ap (λ (p : Option Place). good_region (size_of p) (address_of F i) (region_of (F.block i))) L.place
       ∙ good_yes L.size (address_of F i) (region_of (F.block i)) c)
 
   facts : (i : ℕ) → i < F.total → is_guarded s w F i ≡ true → Guard P (flash_of w) i (region_start s w F i) (region_length F i)
@@ -217,7 +217,7 @@ module _ (s : Settings) (w : World) (F : File) (idle : w.transfer ≡ Idle) (ok 
   unfolding region_of
   part_is k f = ap (λ (x : ℕ). take (field_at (F.block k) 488) (drop (x + (field_at (F.block k) 484 - 0x10000000)) f)) (sym origin_is)
 
-  place_at : (f : List ℕ) (k : ℕ) → k < F.total → length f ≡ flash_of w → place_of s (length f) (field_at (F.block k) 28) ≡ At L.start L.size
+  place_at : (f : List ℕ) (k : ℕ) → k < F.total → length f ≡ flash_of w → place_of s (length f) (field_at (F.block k) 28) ≡ Some (place_from L.start L.size)
   place_at f k h n = (λ i. place_of s (n i) (ok.families k h i)) ∙ L.place
 
   stood : (f : List ℕ) (k : ℕ) → k < F.total → is_data F k ≡ true → length f ≡ flash_of w → standing s f (F.block k) ≡ true → Met f k
@@ -227,7 +227,7 @@ module _ (s : Settings) (w : World) (F : File) (idle : w.transfer ≡ Idle) (ok 
       let b = has_flag (F.block k) 0x4000 in
       let t = good_region L.size (address_of F k) (region_of (F.block k)) in
       let u = stands_in f L.start (region_of (F.block k)) in
-      let r : b && t && u ≡ true = ap (λ (p : Place). stands_at f p (F.block k)) (sym (place_at f k h n)) ∙ e in
+      let r : b && t && u ≡ true = ap (λ (p : Option Place). stands_at f p (F.block k)) (sym (place_at f k h n)) ∙ e in
       let q = and_left (b && t) u r in
       let c = good_true L.size (address_of F k) (region_of (F.block k)) (and_right b t q) in
       let g : is_guarded s w F k ≡ true = guarded_is k y (and_left b t q) c in

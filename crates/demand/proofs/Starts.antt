@@ -6,6 +6,7 @@ use mathlib.Core.Bool.{false, ◌&&◌}
 use mathlib.Core.List.{List}
 use native.Mathlib.Omega.{arith}
 use lib.ListN.{length}
+use Rattle.std.specs.Prelude.{Ok, Err}
 use Rattle.memory.specs.Flash.{payload_of}
 use Rattle.uf2_block.specs.Block.{has_flag}
 use Rattle.uf2_block.specs.Region.{region_of}
@@ -16,11 +17,9 @@ use Rattle.transfer.specs.Transfer.{same_kind, number_of, good_state}
 use Rattle.transfer.specs.declared.Kind.{Kind}
 use Rattle.transfer.specs.declared.Kind.TheVariants.{Flash, MainRam, XipRam}
 use Rattle.transfer.specs.declared.State.{State}
-use Rattle.uf2_checks.specs.Screen.{screen_of}
+use Rattle.uf2_checks.specs.Screen.{screen_of, Screening}
 use Rattle.uf2_checks.specs.declared.Lengths.{Lengths}
 use Rattle.uf2_checks.specs.declared.PlacedBlock.{PlacedBlock}
-use Rattle.uf2_checks.specs.declared.Screening.{Screening}
-use Rattle.uf2_checks.specs.declared.Screening.TheVariants.{Refused, Passed}
 use Rattle.arrival.specs.Arrive.{World, Outcome, receive_of}
 use Rattle.arrival.specs.Facts.{LengthsKept}
 use Rattle.arrival.specs.File.{start_of, origin_of}
@@ -38,7 +37,7 @@ module _ (s : Settings) (v w : World) (L : LengthsKept v w) (t : v.transfer ≡ 
     pub refusal : answer_number s w a ≤ 11 → answer_number s v a ≡ answer_number s w a
     pub passing : 12 ≤ answer_number s w a → 12 ≤ answer_number s v a
 
-  late : (u : World) (a : List ℕ) (B : Board s u) → length a ≡ 512 → (g : PlacedBlock) → screen_of s (lens u) u.transfer a ≡ Passed g → 12 ≤ answer_number s u a
+  late : (u : World) (a : List ℕ) (B : Board s u) → length a ≡ 512 → (g : PlacedBlock) → screen_of s (lens u) u.transfer a ≡ Ok g → 12 ≤ answer_number s u a
   late u a B l g e =
       rw (receive_passed s u a B l g e) (unfold arrive in step_late u (payload_of a) g _ u.transfer _)
 
@@ -55,13 +54,13 @@ module _ (s : Settings) (v w : World) (L : LengthsKept v w) (t : v.transfer ≡ 
       same = ap (λ (n : Lengths). screen_of s n v.transfer a) L.buffers ∙ ap (λ (u : State). screen_of s (lens w) u a) t
 
       go : (x : Screening) → screen_of s (lens w) w.transfer a ≡ x → Answered a
-      go (Refused x) e =
+      go (Err x) e =
           let l = (earned s w a h).1 in
           let p : answer_number s v a ≡ answer_number s w a =
           ap (λ (o : Outcome). number_of o.answer) (receive_refused s v a here l x (same ∙ e))
           ∙ sym (ap (λ (o : Outcome). number_of o.answer) (receive_refused s w a there l x e)) in
           record { refusal = λ n. p; passing = λ n. omega (arith, p) }
-      go (Passed g) e =
+      go (Ok g) e =
           let l = (earned s w a h).1 in
           record {
             refusal = λ n. absurd (omega (arith, n, late w a there l g e));

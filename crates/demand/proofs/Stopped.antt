@@ -8,6 +8,7 @@ use native.Mathlib.Omega.{arith}
 use lib.Dec.{eqb, ltb}
 use lib.ListN.{length, get_or, get_or-eq_default}
 use borrow.Author.Tests.{eqb-true, ltb-true, ltb-false, not-true}
+use Rattle.std.specs.Prelude.{Ok, Err}
 use Rattle.laws.specs.Sets.{Set, none, size, any}
 use Rattle.laws.proofs.Tests.{split, clash, is_false, and_left, and_right, both}
 use Rattle.laws.proofs.Laws.{any_found}
@@ -23,10 +24,8 @@ use Rattle.transfer.specs.declared.Head.{Head}
 use Rattle.transfer.specs.declared.Run.{Run}
 use Rattle.transfer.specs.declared.State.{State}
 use Rattle.transfer.specs.declared.State.TheVariants.{Idle, Running}
-use Rattle.uf2_checks.specs.Screen.{note_kind, screen_of}
+use Rattle.uf2_checks.specs.Screen.{note_kind, screen_of, Screening}
 use Rattle.uf2_checks.specs.declared.Lengths.{Lengths}
-use Rattle.uf2_checks.specs.declared.Screening.{Screening}
-use Rattle.uf2_checks.specs.declared.Screening.TheVariants.{Refused, Passed}
 use Rattle.arrival.specs.Arrive.{Held, World, Outcome, buffer_of, lengths_of, ram_length, done, receive_of}
 use Rattle.arrival.specs.Lists.{receive_all}
 use Rattle.demand.specs.Demand.{File, answer_number, is_data, ValidFile, is_found, Foreign, Mixed, Sent, seen_of, changed_by, head_in, Plain}
@@ -117,7 +116,7 @@ module _ (s : Settings) (v w : World) (F : File) (Z : Stopped F v w) (ok : Valid
 
   -- a block of the file passes all through the list
   own_screened : (u : World) → Reached s v u → Carried P v u.transfer → (k : ℕ) → k < F.total
-      → screen_of s (lens u) u.transfer (F.block k) ≡ Passed (placed_of P k)
+      → screen_of s (lens u) u.transfer (F.block k) ≡ Ok (placed_of P k)
   own_screened u m c k h =
       ⊎_elim
       (λ (e : u.transfer ≡ v.transfer).
@@ -131,9 +130,9 @@ module _ (s : Settings) (v w : World) (F : File) (Z : Stopped F v w) (ok : Valid
   -- ---- a foreign arrival changes nothing, at either start and after it
 
   refused_there : (a : List ℕ) → ForeignToBoth s v w F a → (x : Screening) → screen_of s (lens v) v.transfer a ≡ x
-      → (y : _) × (screen_of s (lens v) v.transfer a ≡ Refused y)
-  refused_there a f (Refused x) e = (x, e)
-  refused_there a f (Passed g) e =
+      → (y : _) × (screen_of s (lens v) v.transfer a ≡ Err y)
+  refused_there a f (Err x) e = (x, e)
+  refused_there a f (Ok g) e =
       let l = (earned s v a f.least).1 in
       let p : 12 ≤ answer_number s v a = rw (receive_passed s v a stopped_board l g e) (unfold arrive in step_late v (payload_of a) g _ v.transfer _) in
       absurd (omega (arith, p, f.most))
@@ -143,7 +142,7 @@ module _ (s : Settings) (v w : World) (F : File) (Z : Stopped F v w) (ok : Valid
       ⊎_elim
       (λ (e : u.transfer ≡ v.transfer).
       let r = refused_there a f (screen_of s (lens v) v.transfer a) refl in
-      let q : screen_of s (lens u) u.transfer a ≡ Refused r.0 = (λ i. screen_of s (m.lengths i) (e i) a) ∙ r.1 in
+      let q : screen_of s (lens u) u.transfer a ≡ Err r.0 = (λ i. screen_of s (m.lengths i) (e i) a) ∙ r.1 in
       ap (λ (o : Outcome). o.world) (receive_refused s u a m.board (earned s v a f.least).1 r.0 q))
       (λ e.
       let r = screen_foreign s w F Z.idle ok a f.foreign in

@@ -9,22 +9,22 @@ use lib.Dec.{eqb}
 use lib.ListN.{length, get_or, take, drop}
 use lib.Seq.{get_or-take, get_or-drop}
 use borrow.Author.Tests.{le-leb, eq-eqb, eqb-true, eqb-false, not-true, not-false}
+use Rattle.std.specs.Prelude.{Result, Ok, Err}
 use Rattle.laws.specs.Sets.{any}
 use Rattle.laws.proofs.Tests.{split, clash}
 use Rattle.laws.proofs.Laws.{any_none, any_all, any_found}
 use Rattle.memory.specs.Flash.{payload_of}
 use Rattle.partitions.specs.Settings.{good_settings}
 use Rattle.partitions.specs.declared.Settings.{Settings}
+use Rattle.transfer.specs.declared.Answer.{Answer}
 use Rattle.transfer.specs.Transfer.{good_state, accepted, step_of}
 use Rattle.transfer.specs.declared.Kind.{Kind}
 use Rattle.transfer.specs.declared.State.{State}
 use Rattle.transfer.specs.declared.State.TheVariants.{Idle}
 use Rattle.transfer.specs.declared.Answer.TheVariants.{BadBuffers, BadSettings}
-use Rattle.uf2_checks.specs.Screen.{screen_of}
+use Rattle.uf2_checks.specs.Screen.{screen_of, Screening}
 use Rattle.uf2_checks.specs.declared.Body.{Body}
 use Rattle.uf2_checks.specs.declared.Body.TheVariants.{Page, Note}
-use Rattle.uf2_checks.specs.declared.Screening.{Screening}
-use Rattle.uf2_checks.specs.declared.Screening.TheVariants as screening
 use Rattle.arrival.specs.Arrive.{Held, World, stays, standing, deed_of, after_screening, decide, buffer_of, lengths_of, right_lengths, forecast_number, forecast_of, look_of}
 use Rattle.arrival.specs.Facts.{LengthsKept}
 use Rattle.arrival.specs.Lists.{receive_all}
@@ -35,7 +35,6 @@ use Rattle.arrival_claims.proofs.Screening.{lens, Board, Good, screen_good}
 use Rattle.arrival_claims.proofs.DecisionFacts.{raised_number}
 use Rattle.arrival_claims.proofs.Effect.{Valid}
 use Rattle.uf2_verify.specs.declared.Stand.{Stand}
-use Rattle.uf2_verify.specs.declared.Stand.TheVariants.{Refused}
 use Rattle.uf2_verify.specs.Stands.{stand_number, differ_at, same_page, page_stands, body_stands, told_by, after_rows, stand_of}
 use Rattle.demand.specs.Demand.{File, address_of, is_data, origin_of, storage_of, ValidFile, Sent, seen_of, Plain, ListEnds}
 use Rattle.demand.proofs.Files.{blocks_of, board, block_size, screen_block, valid}
@@ -151,7 +150,7 @@ module _ (s : Settings) (w : World) (F : File) (idle : w.transfer ≡ Idle) (ok 
           (f.0, f.1, λ q. f.2 (byte-there f.0 f.1 ∙ q ∙ sym (byte-sent f.0 f.1)))
 
     either : (told_of s h a ≡ 95) ⊎ (told_of s h a ≡ 96)
-    either = subst (λ (x : Stand). (stand_number x ≡ 95) ⊎ (stand_number x ≡ 96)) (sym stand-block)
+    either = subst (λ (x : Result Stand Answer). (stand_number x ≡ 95) ⊎ (stand_number x ≡ 96)) (sym stand-block)
         (told_either (body_stands h F.kind (body_of (blocks_of s v F) k) (payload_of a)))
 
     differs : told_of s h a ≡ 96 → (is_data F k ≡ true) × ((i : ℕ) × (i < 256) × (memory_byte s w h F k i ≢ payload_byte F k i))
@@ -202,14 +201,14 @@ module _ (s : Settings) (w : World) (a : List ℕ) where
       (after_screening Idle w.seen (standing s w.held.flash a) c))))
 
   abbrev told : Bool → Bool → Screening → ℕ
-  told r g c = stand_number (cond (not r) (Refused BadBuffers) (cond (not g) (Refused BadSettings) (after_rows w.held (payload_of a) c)))
+  told r g c = stand_number (cond (not r) (Err BadBuffers) (cond (not g) (Err BadSettings) (after_rows w.held (payload_of a) c)))
 
   both : (r g : Bool) (c : Screening) → Good s w a c → Agree (looked r g c) (told r g c)
   unfolding after_screening after_rows step_of accepted
   both false g c f = (λ q. refl, λ q. absurd (omega (arith, q)))
   both true false c f = (λ q. refl, λ q. absurd (omega (arith, q)))
-  both true true (screening.Refused x) f = (λ q. refl, λ q. absurd (omega (arith, q, f.1)))
-  both true true (screening.Passed g) f = (
+  both true true (Err x) f = (λ q. refl, λ q. absurd (omega (arith, q, f.1)))
+  both true true (Ok g) f = (
     λ q. absurd (omega (arith, q, raised_number (deed_of (standing s w.held.flash a) g) g.head 1)),
     λ q. told_either (body_stands w.held g.head.kind g.body (payload_of a)),
   )

@@ -1,18 +1,16 @@
 -- Demand 3 (01, "The list of demand 3"): what a valid file, a list of its blocks and the end of the list are, and the claim.
 -- Proved in proofs/Demand.antt. Assumes nothing.
-use Rattle.std.specs.Prelude.{ℕ, ◌+◌, ◌-◌, ◌/◌, ◌≤◌, ◌<◌, ◌≡◌, ◌≢◌, Bool, true, false, not, cond, ◌&&◌, ◌||◌, List, [], ◌∷◌, ◌++◌, map, eqb, ltb, leb, length, get_or}
+use Rattle.std.specs.Prelude.{ℕ, ◌+◌, ◌-◌, ◌/◌, ◌≤◌, ◌<◌, ◌≡◌, ◌≢◌, Bool, true, false, not, cond, ◌&&◌, ◌||◌, List, [], ◌∷◌, ◌++◌, map, eqb, ltb, leb, length, get_or, Option, Some, None}
 use Rattle.laws.specs.Sets.{Set, none, add, size, any}
 use Rattle.memory.specs.Bitmap.{map_of}
 use Rattle.memory.specs.Flash.{payload_of, spans}
 use Rattle.uf2_block.specs.Block.{field_at, has_flag, header_of}
 use Rattle.uf2_block.specs.Region.{region_of}
 use Rattle.uf2_block.specs.Regions.{good_region}
-use Rattle.uf2_block.specs.declared.Header.{Header}
-use Rattle.uf2_block.specs.declared.Header.TheVariants as header
+use Rattle.uf2_block.specs.declared.HeaderError.TheVariants as header
 use Rattle.partitions.specs.declared.Settings.{Settings}
 use Rattle.placement.specs.Place.{place_of}
 use Rattle.placement.specs.declared.Place.{Place}
-use Rattle.placement.specs.declared.Place.TheVariants.{Nowhere, At}
 use Rattle.transfer.specs.Transfer.{same_kind, head_with, number_of, running}
 use Rattle.transfer.specs.declared.Kind.{Kind}
 use Rattle.transfer.specs.declared.Kind.TheVariants.{Flash, MainRam, XipRam}
@@ -187,9 +185,9 @@ pub record Ends (s : Settings) (w : World) (F : File) (S : Set) (v : World) : Ty
 -- ---- regions (02, L9)
 
 -- the bytes of a place
-abbrev pub size_of : Place → ℕ
-size_of Nowhere = 0
-size_of (At start size) = size
+abbrev pub size_of : Option Place → ℕ
+size_of None = 0
+size_of (Some p) = p.len
 
 -- block k names a region that counts: a flash data block with flag 0x4000, and "whole sectors, not empty, within the place and around the block"
 abbrev pub is_guarded : Settings → World → File → ℕ → Bool

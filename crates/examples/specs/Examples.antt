@@ -1,12 +1,11 @@
 -- The examples that 01 marks P ("Examples to compute with"), in a table, and the one statement over it. Proved in proofs/Examples.antt.
 -- Assumes nothing.
-use Rattle.std.specs.Prelude.{◌≡◌, true, false, List, [], ◌∷◌, ◌++◌, map, replicate}
-use Rattle.placement.specs.declared.Choice.TheVariants.{Entry}
-use Rattle.placement.specs.declared.PlaceAnswer.TheVariants.{Found}
+use Rattle.std.specs.Prelude.{◌≡◌, true, false, List, [], ◌∷◌, ◌++◌, map, replicate, Some, Ok}
 use Rattle.transfer.specs.Transfer.{running}
 use Rattle.transfer.specs.declared.State.TheVariants.{Done}
 use Rattle.examples.specs.Boards.{arrival_of, plain, partitioned, two_entries, arm_head, lent_to}
 use Rattle.examples.specs.Tables.{arriving, placing, left, placed, found, Example, case, after, one, as_lent, page, block_of_three}
+use Rattle.placement.specs.Place.{place_from}
 
 -- 01's rows that are marked P, in its order
 unfoldable pub examples : List Example
@@ -36,8 +35,8 @@ examples =
     ∷ case (arriving plain (lent_to (running (arm_head 3) 2)) (arrival_of 0x10000000 0 4 1 ∷ []))
     (left (14 ∷ []) (true ∷ []) (after (running (arm_head 4) 1) 128 0 128 (page 0 0 1 61440)))
     -- "unowned entries 0 and 1 accept arm-s, 0 not bootable for Arm, Arm current: place 1; entry 1 gone: place 0."
-    ∷ case (placing (two_entries 2)) (placed (Entry 1) (Found 8192 8192))
-    ∷ case (placing (two_entries 1)) (placed (Entry 0) (Found 0 8192))
+    ∷ case (placing (two_entries 2)) (placed (Some 1) (Ok (place_from 8192 8192)))
+    ∷ case (placing (two_entries 1)) (placed (Some 0) (Ok (place_from 0 8192)))
     ∷ []
 
 -- every question gives what is expected

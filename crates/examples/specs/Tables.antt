@@ -2,15 +2,12 @@
 use Rattle.std.specs.Prelude.{ℕ, ◌+◌, ◌-◌, ◌*◌, Bool, false, List, [], ◌∷◌, ◌++◌, map, replicate}
 use Rattle.partitions.specs.Settings.{family_arm_s}
 use Rattle.partitions.specs.declared.Settings.{Settings}
-use Rattle.placement.specs.Place.{chosen_entry, ask_of}
-use Rattle.placement.specs.declared.Choice.{Choice}
-use Rattle.placement.specs.declared.PlaceAnswer.{PlaceAnswer}
+use Rattle.placement.specs.Place.{chosen_entry, ask_of, Choice, PlaceAnswer}
 use Rattle.transfer.specs.Transfer.{number_of}
 use Rattle.transfer.specs.declared.State.{State}
 use Rattle.transfer.specs.declared.State.TheVariants.{Idle}
-use Rattle.uf2_checks.specs.Screen.{screen_of}
+use Rattle.uf2_checks.specs.Screen.{screen_of, Screening}
 use Rattle.uf2_checks.specs.declared.Lengths.{Lengths}
-use Rattle.uf2_checks.specs.declared.Screening.{Screening}
 use Rattle.arrival.specs.Arrive.{World}
 use Rattle.arrival.specs.Lists.{receive_all, answers_of, discards_of}
 use Rattle.examples.specs.Boards.{arrival_of, lent_to}

@@ -1,5 +1,6 @@
 -- The answers are true. Assumes nothing.
-use Prim.Native.Nat.{ℕ, suc, ◌+◌, ◌/◌, ◌%◌, ◌<◌, ◌≤◌}
+use Prim.Native.Nat.{ℕ, ◌%◌, ◌<◌, ◌≤◌}
+use Rattle.std.specs.Prelude.{Ok, Err}
 use mathlib.Core.Path.{◌≡◌, refl, sym, ap, subst, ◌∙◌}
 use mathlib.Core.Logic.{◌≢◌}
 use mathlib.Core.Bool.{Bool, true, false, cond, not, ◌&&◌}
@@ -8,47 +9,34 @@ use native.Mathlib.Omega.{arith}
 use lib.Dec.{eqb}
 use lib.ListN.{length}
 use borrow.Author.Tests.{eqb-true, eqb-false, not-true, not-false}
-use Rattle.laws.specs.Sets.{Set, any, least, size}
-use Rattle.laws.proofs.Tests.{split, clash, is_false, and_left}
-use Rattle.laws.proofs.Laws.{any_all, any_hit, least_below, size_le, size_lt}
+use Rattle.std.specs.Prelude.{Ok, Err}
+use Rattle.laws.specs.Sets.{any, least, size}
+use Rattle.laws.proofs.Tests.{split, clash, and_left}
+use Rattle.laws.proofs.Laws.{any_all, least_below, size_le}
 use Rattle.partitions.specs.Settings.{good_settings}
 use Rattle.partitions.specs.declared.Settings.{Settings}
 use Rattle.memory.specs.Flash.{payload_of}
 use Rattle.transfer.specs.Transfer.{same_kind}
 use Rattle.transfer.specs.declared.Kind.{Kind}
 use Rattle.transfer.specs.declared.State.TheVariants.{Idle}
-use Rattle.uf2_checks.specs.Screen.{screen_of}
+use Rattle.uf2_checks.specs.Screen.{screen_of, Screening}
 use Rattle.uf2_checks.specs.declared.Lengths.{Lengths}
 use Rattle.uf2_checks.specs.declared.PlacedBlock.{PlacedBlock}
-use Rattle.uf2_checks.specs.declared.Screening.{Screening}
-use Rattle.uf2_checks.specs.declared.Screening.TheVariants as screening
 use Rattle.arrival.specs.Arrive.{World, right_lengths, receive_of, after_screening}
-use Rattle.arrival.proofs.Heads.{kind_same, kind_other, same_kind_lem}
+use Rattle.arrival.proofs.Heads.{kind_same, same_kind_lem}
 use Rattle.arrival_claims.proofs.Screening.{lens, Board}
 use Rattle.arrival_claims.proofs.DecisionFacts.{board_decides, right_true, step_late}
 use Rattle.demand.proofs.Lists.{receive_refused}
-use Rattle.file_check.specs.declared.Checked.{Checked}
-use Rattle.file_check.specs.declared.Checked.TheVariants.{BadBuffers, BadSettings, Ragged, Empty, Refused, OtherFamily, OtherTotal, OtherKind, SameNumber, Overlap, Missing, Guarded, Valid}
-use Rattle.file_check.specs.Check.{piece_at, pieces_in, field_in, kind_alone, total_in, family_in, kind_in, same_number, overlaps, beside_of, screened_to, fault_at, is_valid, is_faulty, is_missing, is_guarding, whole_of, pieces_of, right_maps, check_of, numbers_below}
+use Rattle.file_check.specs.declared.FileFault.TheVariants.{BadBuffers, BadSettings, Ragged, Empty, Missing, Guarded}
+use Rattle.file_check.specs.Check.{Checked, piece_at, pieces_in, field_in, kind_alone, total_in, family_in, kind_in, same_number, overlaps, beside_of, screened_to, fault_at, is_valid, is_faulty, is_missing, is_guarding, whole_of, pieces_of, right_maps, check_of, numbers_below}
 use Rattle.file_check.specs.Valid.{Start}
 use Rattle.file_check.specs.Faults.{Opens, First, Taken, Fits, Fine, Told, AnswersAreTrue}
 use Rattle.file_check.proofs.Sound.{Fine as FinePiece, fine, board_of_lem, piece_size, counted, passing_of}
 use Rattle.file_check.proofs.Theorems.{empty, empty_start, size_all}
 
-valid_is : (x : Checked) → is_valid x ≡ true → x ≡ Valid
-valid_is Valid e = refl
-valid_is BadBuffers e = clash false e refl
-valid_is BadSettings e = clash false e refl
-valid_is Ragged e = clash false e refl
-valid_is Empty e = clash false e refl
-valid_is (Refused i x) e = clash false e refl
-valid_is (OtherFamily i) e = clash false e refl
-valid_is (OtherTotal i) e = clash false e refl
-valid_is (OtherKind i) e = clash false e refl
-valid_is (SameNumber i j) e = clash false e refl
-valid_is (Overlap i j) e = clash false e refl
-valid_is (Missing k) e = clash false e refl
-valid_is (Guarded i) e = clash false e refl
+valid_is : (x : Checked) → is_valid x ≡ true → x ≡ Ok tt
+valid_is (Ok u) e = refl
+valid_is (Err x) e = clash false e refl
 
 module _ (s : Settings) (n : Lengths) (a b c : ℕ) (f : List ℕ) where
   abbrev T : Checked → Type 0
@@ -93,7 +81,7 @@ module _ (s : Settings) (n : Lengths) (a b c : ℕ) (f : List ℕ) where
           (λ z2. rw z2 (λ z. (o, first, t, eqb-true _ _ y1, eqb-false _ _ z2)))))
           (λ z1. rw z1 (λ z. (o, first, t, eqb-false _ _ z1)))
 
-      taken : (p : PlacedBlock) → screen_of s n Idle (piece_at f i) ≡ screening.Passed p → Taken s n f i
+      taken : (p : PlacedBlock) → screen_of s n Idle (piece_at f i) ≡ Ok p → Taken s n f i
       unfolding receive_of after_screening
       taken p e w st =
           rw (board_decides s w (piece_at f i) (board w st) (piece_size f i first.here), screened w st ∙ e)
@@ -104,8 +92,8 @@ module _ (s : Settings) (n : Lengths) (a b c : ℕ) (f : List ℕ) where
       fault_told = go (screen_of s n Idle (piece_at f i)) refl
         where
           go : (x : Screening) → screen_of s n Idle (piece_at f i) ≡ x → is_valid (screened_to n f i x) ≡ false → T (screened_to n f i x)
-          go (screening.Refused x) e z = (o, first, λ w st. receive_refused s w (piece_at f i) (board w st) (piece_size f i first.here) x (screened w st ∙ e))
-          go (screening.Passed p) e z = beside-told (taken p e) z
+          go (Err x) e z = (o, first, λ w st. receive_refused s w (piece_at f i) (board w st) (piece_size f i first.here) x (screened w st ∙ e))
+          go (Ok p) e z = beside-told (taken p e) z
 
     -- ---- every piece is fine
 
@@ -135,14 +123,14 @@ module _ (s : Settings) (n : Lengths) (a b c : ℕ) (f : List ℕ) where
       whole_told : T (whole_of s n f)
       unfolding whole_of
       whole_told =
-          by (not (eqb (pieces_in f) (total_in f))) (Missing (least (total_in f) (is_missing f))) _
+          by (not (eqb (pieces_in f) (total_in f))) (Err (Missing (least (total_in f) (is_missing f)))) _
           (λ y.
           let m = missing-some (eqb-false _ _ (not-true _ y)) in
           let r = least_below (is_missing f) (total_in f) m.1 in
           (o, ok, m.0, r.0, r.1, r.2))
           (λ z.
           let e : pieces_in f ≡ total_in f = eqb-true _ _ (not-false _ z) in
-          by (any (pieces_in f) (is_guarding s n f)) (Guarded (least (pieces_in f) (is_guarding s n f))) Valid
+          by (any (pieces_in f) (is_guarding s n f)) (Err (Guarded (least (pieces_in f) (is_guarding s n f)))) (Ok tt)
           (λ y. let r = least_below (is_guarding s n f) (pieces_in f) y in (o, ok, e, r.0, r.1, r.2))
           (λ g. (o, ok, e, g)))
 
@@ -161,18 +149,18 @@ module _ (s : Settings) (n : Lengths) (a b c : ℕ) (f : List ℕ) where
   told : T (check_of s n a b c f)
   unfolding check_of
   told =
-      by (not (right_maps n a b c)) BadBuffers _
+      by (not (right_maps n a b c)) (Err BadBuffers) _
       (λ y. not-true _ y)
       (λ z1.
       let l = not-false _ z1 in
-      by (not (good_settings s n.flash)) BadSettings _
+      by (not (good_settings s n.flash)) (Err BadSettings) _
       (λ y. (l, not-true _ y))
       (λ z2.
       let g = not-false _ z2 in
-      by (not (eqb (length f % 512) 0)) Ragged _
+      by (not (eqb (length f % 512) 0)) (Err Ragged) _
       (λ y. (l, g, eqb-false _ _ (not-true _ y)))
       (λ z3.
-      by (eqb (length f) 0) Empty _
+      by (eqb (length f) 0) (Err Empty) _
       (λ y. (l, g, eqb-true _ _ y))
       (λ z4. pieces-told (record { lengths = l; good = g; whole = eqb-true _ _ (not-false _ z3); some = eqb-false _ _ z4 })))))
 

@@ -1,44 +1,39 @@
 -- Pieces with which nothing is wrong are the blocks of a valid file. Assumes nothing.
-use Prim.Native.Nat.{ℕ, zero, suc, ◌+◌, ◌-◌, ◌*◌, ◌/◌, ◌%◌, ◌<◌, ◌≤◌}
+use Prim.Native.Nat.{ℕ, zero, suc, ◌+◌, ◌*◌, ◌%◌, ◌<◌, ◌≤◌}
+use Rattle.std.specs.Prelude.{Ok, Err}
 use mathlib.Core.Path.{◌≡◌, refl, sym, ap, subst, ◌∙◌}
 use mathlib.Core.Logic.{◌≢◌}
-use mathlib.Core.Bool.{Bool, true, false, not, cond, ◌&&◌, ◌||◌, or_comm}
+use mathlib.Core.Bool.{Bool, true, false, not, cond, ◌||◌, or_comm}
 use mathlib.Core.List.{List}
-use native.Mathlib.Nat.{not-suc-le-zero}
-use native.Mathlib.Decide.{dec_lt}
 use native.Mathlib.Omega.{arith}
 use lib.Dec.{eqb, ltb, leb}
-use lib.ListN.{length, take, drop, length-drop}
+use lib.ListN.{length, drop, length-drop}
 use lib.Seq.{length-take-le}
 use borrow.Author.Tests.{eqb-true, eqb-false, eq-eqb, ne_eqb, ltb-true, ltb-false, leb-true, lt-ltb, le-leb, not-true, not-false}
-use Rattle.laws.specs.Sets.{Set, none, add, one, size, any, least}
-use Rattle.laws.proofs.Tests.{split, clash, is_false, eqb_same, and_left, and_right, both}
-use Rattle.laws.proofs.Laws.{size_none, size_add, size_full, size_cong, any_hit, any_all, any_none, least_below, least_is}
+use Rattle.std.specs.Prelude.{Ok, Err}
+use Rattle.laws.specs.Sets.{none, add, size, any, least}
+use Rattle.laws.proofs.Tests.{split, clash, eqb_same, and_left, and_right, both}
+use Rattle.laws.proofs.Laws.{size_none, size_add, size_full, size_cong, any_all, any_none, least_below, least_is}
 use Rattle.memory.specs.Flash.{flash_length, payload_of, spans}
 use Rattle.uf2_block.specs.Block.{field_at, has_flag, fields_of}
 use Rattle.partitions.specs.Settings.{good_settings}
 use Rattle.partitions.specs.declared.Settings.{Settings}
-use Rattle.transfer.specs.Transfer.{number_of, same_kind, good_state}
+use Rattle.transfer.specs.Transfer.{same_kind, good_state}
 use Rattle.transfer.specs.declared.Kind.{Kind}
 use Rattle.transfer.specs.declared.Kind.TheVariants.{Flash, MainRam, XipRam}
-use Rattle.transfer.specs.declared.State.{State}
 use Rattle.transfer.specs.declared.State.TheVariants.{Idle}
-use Rattle.transfer.specs.declared.Answer.{Answer}
-use Rattle.uf2_checks.specs.Screen.{window_of, window_kind, screen_of}
+use Rattle.uf2_checks.specs.Screen.{window_of, window_kind, screen_of, Screening}
 use Rattle.uf2_checks.specs.declared.Lengths.{Lengths}
 use Rattle.uf2_checks.specs.declared.PlacedBlock.{PlacedBlock}
-use Rattle.uf2_checks.specs.declared.Screening.{Screening}
-use Rattle.uf2_checks.specs.declared.Screening.TheVariants as screening
-use Rattle.arrival.specs.Arrive.{World, lengths_of, ram_length, right_lengths, receive_of, after_screening, standing, deed_of}
-use Rattle.arrival.specs.Windows.{window_start, window_end, lies, kind_of}
+use Rattle.arrival.specs.Arrive.{World, ram_length, right_lengths, receive_of, after_screening}
+use Rattle.arrival.specs.Windows.{lies, kind_of}
 use Rattle.arrival.proofs.Heads.{kind_same, same_kind_lem}
 use Rattle.arrival_claims.proofs.Screening.{lens, Board, Passing, Good, screen_good, kind_window}
 use Rattle.arrival_claims.proofs.DecisionFacts.{board_decides, right_true, step_late}
-use Rattle.demand.specs.Demand.{File, is_data, address_of, answer_number, ValidFile}
-use Rattle.file_check.specs.declared.Checked.{Checked}
-use Rattle.file_check.specs.declared.Checked.TheVariants.{BadBuffers, BadSettings, Ragged, Empty, Refused, OtherFamily, OtherTotal, OtherKind, SameNumber, Overlap, Missing, Guarded, Valid}
-use Rattle.file_check.specs.Check.{piece_at, pieces_in, field_in, is_page, kind_alone, total_in, family_in, kind_in, numbers_below, same_number, near, overlaps, beside_of, screened_to, fault_at, is_valid, is_sound, is_faulty, is_missing, is_guarding, whole_of, pieces_of, right_maps, check_of}
-use Rattle.file_check.specs.Valid.{Start, file_of, Pieces, Good as GoodFile, answer_to, ValidIsValid}
+use Rattle.demand.specs.Demand.{File, answer_number, ValidFile}
+use Rattle.file_check.specs.declared.FileFault.TheVariants.{BadBuffers, BadSettings, Ragged, Empty, OtherFamily, OtherTotal, OtherKind, SameNumber, Overlap, Missing, Guarded}
+use Rattle.file_check.specs.Check.{Checked, piece_at, pieces_in, field_in, is_page, kind_alone, total_in, family_in, kind_in, numbers_below, same_number, near, overlaps, beside_of, screened_to, fault_at, is_valid, is_sound, is_faulty, is_guarding, whole_of, pieces_of, right_maps, check_of}
+use Rattle.file_check.specs.Valid.{Start, file_of, Pieces, answer_to}
 
 -- ---- a piece with which nothing is wrong
 
@@ -55,28 +50,17 @@ sound_by true x y z e = clash (is_sound x) e z
 sound_by false x y z e = (refl, e)
 
 valid_sound : (x : Checked) → is_valid x ≡ true → is_sound x ≡ true
-valid_sound Valid e = refl
-valid_sound (Guarded i) e = refl
-valid_sound BadBuffers e = e
-valid_sound BadSettings e = e
-valid_sound Ragged e = e
-valid_sound Empty e = e
-valid_sound (Refused i x) e = e
-valid_sound (OtherFamily i) e = e
-valid_sound (OtherTotal i) e = e
-valid_sound (OtherKind i) e = e
-valid_sound (SameNumber i j) e = e
-valid_sound (Overlap i j) e = e
-valid_sound (Missing k) e = e
+valid_sound (Ok u) e = refl
+valid_sound (Err x) e = clash false e refl
 
 beside_sound : (n : Lengths) (f : List ℕ) (i : ℕ) → is_sound (beside_of n f i) ≡ true → Beside n f i
 unfolding beside_of
 beside_sound n f i e =
-    let p = sound_by _ (OtherFamily i) _ refl e in
-    let q = sound_by _ (OtherTotal i) _ refl p.1 in
-    let r = sound_by _ (OtherKind i) _ refl q.1 in
-    let t = sound_by _ (SameNumber i _) _ refl r.1 in
-    let u = sound_by _ (Overlap i _) Valid refl t.1 in
+    let p = sound_by _ (Err (OtherFamily i)) _ refl e in
+    let q = sound_by _ (Err (OtherTotal i)) _ refl p.1 in
+    let r = sound_by _ (Err (OtherKind i)) _ refl q.1 in
+    let t = sound_by _ (Err (SameNumber i _)) _ refl r.1 in
+    let u = sound_by _ (Err (Overlap i _)) (Ok tt) refl t.1 in
     record {
       family = eqb-true _ _ (not-false _ p.0);
       total = eqb-true _ _ (not-false _ q.0);
@@ -101,7 +85,7 @@ beside_valid n f i b =
 
 pub record Fine (s : Settings) (n : Lengths) (f : List ℕ) (i : ℕ) : Type 0 where
   pub placed : PlacedBlock
-  pub passes : screen_of s n Idle (piece_at f i) ≡ screening.Passed placed
+  pub passes : screen_of s n Idle (piece_at f i) ≡ Ok placed
   pub beside : Beside n f i
 
 pub fine : (s : Settings) (n : Lengths) (f : List ℕ) (i : ℕ) → is_valid (fault_at s n f i) ≡ true → Fine s n f i
@@ -109,8 +93,8 @@ unfolding fault_at
 fine s n f i e = go (screen_of s n Idle (piece_at f i)) refl e
   where
     go : (x : Screening) → screen_of s n Idle (piece_at f i) ≡ x → is_valid (screened_to n f i x) ≡ true → Fine s n f i
-    go (screening.Refused x) q e = clash false e refl
-    go (screening.Passed p) q e = record { placed = p; passes = q; beside = beside n f i e }
+    go (Err x) q e = clash false e refl
+    go (Ok p) q e = record { placed = p; passes = q; beside = beside n f i e }
 
 -- ---- every number is there
 
@@ -169,7 +153,7 @@ board_of_lem s n w st right good =
     }
 
 -- a piece that passes at such a start
-pub passing_of : (s : Settings) (n : Lengths) (f : List ℕ) (w : World) → Start n w → (i : ℕ) (p : PlacedBlock) → screen_of s n Idle (piece_at f i) ≡ screening.Passed p
+pub passing_of : (s : Settings) (n : Lengths) (f : List ℕ) (w : World) → Start n w → (i : ℕ) (p : PlacedBlock) → screen_of s n Idle (piece_at f i) ≡ Ok p
     → Passing s w (piece_at f i) p
 passing_of s n f w st i p e =
     subst (Good s w (piece_at f i)) ((λ j. screen_of s (st.lengths j) (st.idle j) (piece_at f i)) ∙ e) (screen_good s w (piece_at f i))
@@ -195,7 +179,7 @@ module _ (s : Settings) (n : Lengths) (f : List ℕ) (ok : Sound s n f) where
     board : Board s w
     board = board_of_lem s n w st ok.right ok.good
 
-    screened : (i : ℕ) (h : i < pieces_in f) → screen_of s (lens w) w.transfer (piece_at f i) ≡ screening.Passed (ok.fines i h).placed
+    screened : (i : ℕ) (h : i < pieces_in f) → screen_of s (lens w) w.transfer (piece_at f i) ≡ Ok (ok.fines i h).placed
     screened i h = (λ j. screen_of s (st.lengths j) (st.idle j) (piece_at f i)) ∙ (ok.fines i h).passes
 
     passing : (i : ℕ) (h : i < pieces_in f) → Passing s w (piece_at f i) (ok.fines i h).placed
@@ -285,8 +269,8 @@ unfolding fault_at
 piece_fault s n f i e = go (screen_of s n Idle (piece_at f i)) e
   where
     go : (x : Screening) → is_sound (screened_to n f i x) ≡ true → is_valid (screened_to n f i x) ≡ true
-    go (screening.Refused x) e = e
-    go (screening.Passed p) e = beside_valid n f i (beside_sound n f i e)
+    go (Err x) e = e
+    go (Ok p) e = beside_valid n f i (beside_sound n f i e)
 
 module _ (s : Settings) (n : Lengths) (f : List ℕ) where
   -- the first piece with which something is wrong is told
@@ -303,12 +287,12 @@ module _ (s : Settings) (n : Lengths) (f : List ℕ) where
   pub sound : is_sound (answer_to s n f) ≡ true → Sound s n f
   unfolding check_of right_maps whole_of
   sound e =
-      let p = sound_by _ BadBuffers _ refl e in
-      let q = sound_by _ BadSettings _ refl p.1 in
-      let r = sound_by _ Ragged _ refl q.1 in
-      let t = sound_by _ Empty _ refl r.1 in
+      let p = sound_by _ (Err BadBuffers) _ refl e in
+      let q = sound_by _ (Err BadSettings) _ refl p.1 in
+      let r = sound_by _ (Err Ragged) _ refl q.1 in
+      let t = sound_by _ (Err Empty) _ refl r.1 in
       let u = pieces_fine t.1 in
-      let v = sound_by _ (Missing _) _ refl u.1 in
+      let v = sound_by _ (Err (Missing _)) _ refl u.1 in
       record {
         right = and_left _ true (and_left _ true (not-false _ p.0));
         good = not-false _ q.0;
@@ -325,7 +309,7 @@ unfolding fault_at
 fine_valid s n f i x = rw x.passes (beside_valid n f i x.beside)
 
 pub answer_is : (s : Settings) (n : Lengths) (f : List ℕ) → Sound s n f
-    → answer_to s n f ≡ cond (any (pieces_in f) (is_guarding s n f)) (Guarded (least (pieces_in f) (is_guarding s n f))) Valid
+    → answer_to s n f ≡ cond (any (pieces_in f) (is_guarding s n f)) (Err (Guarded (least (pieces_in f) (is_guarding s n f)))) (Ok tt)
 unfolding check_of right_maps pieces_of whole_of
 answer_is s n f ok =
     rw (

@@ -1,16 +1,17 @@
 -- The theorems of specs/Valid.antt. Assumes nothing.
-use Prim.Native.Nat.{ℕ, zero, suc, ◌+◌, ◌-◌, ◌*◌, ◌/◌, ◌%◌, ◌<◌, ◌≤◌}
+use Prim.Native.Nat.{ℕ, zero, suc, ◌+◌, ◌-◌, ◌%◌, ◌<◌, ◌≤◌}
+use Rattle.std.specs.Prelude.{Ok, Err}
 use mathlib.Core.Path.{◌≡◌, refl, sym, ap, subst, ◌∙◌, fun_ext}
 use mathlib.Core.Logic.{◌≢◌}
-use mathlib.Core.Bool.{Bool, true, false, not, cond, ◌&&◌, ◌||◌}
-use mathlib.Core.List.{List, [], ◌∷◌, map}
+use mathlib.Core.Bool.{Bool, true, false, not, cond, ◌&&◌}
+use mathlib.Core.List.{List}
 use native.Mathlib.Omega.{arith}
 use lib.Dec.{eqb, ltb, leb}
-use lib.ListN.{length}
-use borrow.Author.Tests.{eqb-true, eqb-false, eq-eqb, ne_eqb, ltb-true, ltb-false, leb-true, leb-false, lt-ltb, le-leb, not-true, not-false}
+use borrow.Author.Tests.{eqb-false, ne_eqb, ltb-true, leb-true, leb-false, lt-ltb, le-leb, not-true}
+use Rattle.std.specs.Prelude.{Option, Some, None, Ok}
 use Rattle.laws.specs.Sets.{Set, any, least, size}
-use Rattle.laws.proofs.Tests.{split, clash, is_false, eqb_same, and_left, and_right, both}
-use Rattle.laws.proofs.Laws.{any_none, any_all, any_hit, size_cong}
+use Rattle.laws.proofs.Tests.{split, clash, is_false, and_left, and_right, both}
+use Rattle.laws.proofs.Laws.{any_none, any_all}
 use Rattle.memory.specs.Many.{many}
 use Rattle.memory.proofs.fill.Laws.{length_many}
 use Rattle.memory.specs.Flash.{spans}
@@ -18,36 +19,26 @@ use Rattle.uf2_block.specs.Block.{field_at, has_flag}
 use Rattle.uf2_block.specs.Region.{region_of}
 use Rattle.uf2_block.specs.declared.Region.{Region}
 use Rattle.uf2_block.specs.Regions.{good_region}
-use Rattle.partitions.specs.Settings.{good_settings}
 use Rattle.partitions.specs.declared.Settings.{Settings}
 use Rattle.placement.specs.Place.{place_of}
 use Rattle.placement.specs.declared.Place.{Place}
-use Rattle.placement.specs.declared.Place.TheVariants.{Nowhere, At}
 use Rattle.transfer.specs.Transfer.{same_kind}
-use Rattle.transfer.specs.declared.Kind.{Kind}
 use Rattle.transfer.specs.declared.Kind.TheVariants.{Flash}
 use Rattle.transfer.specs.declared.Head.{Head}
-use Rattle.transfer.specs.declared.State.{State}
 use Rattle.transfer.specs.declared.State.TheVariants.{Idle}
-use Rattle.uf2_checks.specs.Screen.{screen_of}
+use Rattle.uf2_checks.specs.Screen.{screen_of, Screening}
 use Rattle.uf2_checks.specs.declared.Lengths.{Lengths}
-use Rattle.uf2_checks.specs.declared.PlacedBlock.{PlacedBlock}
-use Rattle.uf2_checks.specs.declared.Screening.{Screening}
-use Rattle.uf2_checks.specs.declared.Screening.TheVariants as screening
 use Rattle.arrival.specs.Arrive.{World, lengths_of, right_lengths}
-use Rattle.arrival.specs.Windows.{kind_of}
 use Rattle.arrival.specs.Lists.{receive_all}
-use Rattle.arrival.proofs.Heads.{same_kind_lem}
 use Rattle.arrival.proofs.Count.{placed_of}
 use Rattle.arrival_claims.proofs.Screening.{lens, Board, Good, screen_good}
-use Rattle.demand.specs.Demand.{File, is_data, address_of, ValidFile, Foreign, Mixed, nothing, own, Sent, same_bytes, among, seen_of, how_many, size_of, is_guarded, Plain, Contents, Ends, ListEnds, PlainAnswers}
+use Rattle.demand.specs.Demand.{File, is_data, address_of, ValidFile, Sent, seen_of, size_of, is_guarded, Plain, Contents, Ends, ListEnds, PlainAnswers}
 use Rattle.demand.proofs.Files.{board, blocks_of, screen_block}
 use Rattle.demand.proofs.Demand.{list_ends, plain_answers}
-use Rattle.file_check.specs.declared.Checked.{Checked}
-use Rattle.file_check.specs.declared.Checked.TheVariants.{BadBuffers, BadSettings, Ragged, Empty, Refused, OtherFamily, OtherTotal, OtherKind, SameNumber, Overlap, Missing, Guarded, Valid}
-use Rattle.file_check.specs.Check.{piece_at, pieces_in, field_in, is_page, kind_alone, total_in, family_in, kind_in, same_number, near, overlaps, beside_of, screened_to, fault_at, is_valid, is_sound, is_faulty, guards_in, is_guarding, whole_of, pieces_of, right_maps, check_of}
+use Rattle.file_check.specs.declared.FileFault.TheVariants.{Guarded}
+use Rattle.file_check.specs.Check.{Checked, piece_at, pieces_in, field_in, is_page, kind_alone, total_in, family_in, kind_in, same_number, near, overlaps, is_valid, is_sound, guards_in, is_guarding}
 use Rattle.file_check.specs.Valid.{Start, file_of, Pieces, Good as GoodFile, answer_to, PlainAt, ValidIsValid, GuardedIsValid, NothingElseIsValid, PlainIsValid, Delivered, ValidArrives}
-use Rattle.file_check.proofs.Sound.{Sound, sound, valid, pieces, at, kind_alone_lem, found_at, at_of, number_below, spans_near, Fine, Beside, answer_is}
+use Rattle.file_check.proofs.Sound.{Sound, sound, valid, pieces, at, kind_alone_lem, found_at, Fine, answer_is}
 
 -- ---- regions
 
@@ -70,9 +61,9 @@ no_room x g =
     let k : g.len ≢ 0 = eqb-false _ _ (not-true _ (and_right a b (and_left (a && b) c e4))) in
     absurd (k (omega arith)))
 
-guards_is : (p : Place) (a : List ℕ) → good_region (size_of p) (field_at a 12) (region_of a) ≡ guards_in p a
-guards_is Nowhere a = no_room (field_at a 12) (region_of a)
-guards_is (At start size) a = refl
+guards_is : (p : Option Place) (a : List ℕ) → good_region (size_of p) (field_at a 12) (region_of a) ≡ guards_in p a
+guards_is None a = no_room (field_at a 12) (region_of a)
+guards_is (Some p) a = refl
 
 pub plain : (s : Settings) (n : Lengths) (f : List ℕ) (ok : Sound s n f) → any (pieces_in f) (is_guarding s n f) ≡ false → PlainAt s n (file_of n f)
 plain s n f ok e w st k h =
@@ -107,12 +98,12 @@ empty_start n =
 good_file : (s : Settings) (n : Lengths) (f : List ℕ) → Sound s n f → GoodFile s n f (file_of n f)
 good_file s n f ok = record { pieces = pieces s n f ok (empty n) (empty_start n); valid = λ w st. valid s n f ok w st }
 
-guarded_not : (b : Bool) (i : ℕ) → cond b (Guarded i) Valid ≡ Valid → b ≡ false
-guarded_not true i e = let z : ◌≡◌ {A = ℕ} 0 1 = cc in absurd (omega arith)
-guarded_not false i e = refl
+guarded_not : (b : Bool) (i : ℕ) {x : Checked} → x ≡ cond b (Err (Guarded i)) (Ok tt) → x ≡ Ok tt → b ≡ false
+guarded_not true i e q = clash false (ap is_valid (sym e ∙ q)) refl
+guarded_not false i e q = refl
 
-no_region : (s : Settings) (n : Lengths) (f : List ℕ) → Sound s n f → answer_to s n f ≡ Valid → any (pieces_in f) (is_guarding s n f) ≡ false
-no_region s n f ok e = guarded_not _ (least (pieces_in f) (is_guarding s n f)) (sym (answer_is s n f ok) ∙ e)
+no_region : (s : Settings) (n : Lengths) (f : List ℕ) → Sound s n f → answer_to s n f ≡ Ok tt → any (pieces_in f) (is_guarding s n f) ≡ false
+no_region s n f ok e = guarded_not _ (least (pieces_in f) (is_guarding s n f)) (answer_is s n f ok) e
 
 pub valid_is_valid : ValidIsValid
 unfolding ValidIsValid
@@ -160,7 +151,7 @@ valid_arrives s w f l idle seen sectors e sent each =
 
 -- ---- and no other file
 
-either_sound : (b : Bool) (i : ℕ) → is_sound (cond b (Guarded i) Valid) ≡ true
+either_sound : (b : Bool) (i : ℕ) → is_sound (cond b (Err (Guarded i)) (Ok tt)) ≡ true
 either_sound true i = refl
 either_sound false i = refl
 
@@ -184,7 +175,7 @@ module _ (s : Settings) (w : World) (f : List ℕ) (F : File) (idle : w.transfer
   of_block : (A : Type 0) (g : List ℕ → A) (i : ℕ) → i < F.total → g (piece_at f i) ≡ g (F.block (number i))
   of_block A g i h = sym (ap g (p.each i h))
 
-  screened : (i : ℕ) → i < F.total → screen_of s n Idle (piece_at f i) ≡ screening.Passed (placed_of (blocks_of s w F) (number i))
+  screened : (i : ℕ) → i < F.total → screen_of s n Idle (piece_at f i) ≡ Ok (placed_of (blocks_of s w F) (number i))
   screened i h =
       of_block Screening (screen_of s n Idle) i h
       ∙ (λ j. screen_of s n (sym idle j) (F.block (number i)))
@@ -192,9 +183,9 @@ module _ (s : Settings) (w : World) (f : List ℕ) (F : File) (idle : w.transfer
 
   kind_at : (i : ℕ) → i < F.total → kind_alone n (piece_at f i) ≡ F.kind
   kind_at i h =
-      let e : screen_of s (lens w) w.transfer (piece_at f i) ≡ screening.Passed (placed_of (blocks_of s w F) (number i)) =
+      let e : screen_of s (lens w) w.transfer (piece_at f i) ≡ Ok (placed_of (blocks_of s w F) (number i)) =
       of_block Screening (screen_of s (lens w) w.transfer) i h ∙ screen_block s w F idle ok (number i) (p.below i h) in
-      let g : Good s w (piece_at f i) (screening.Passed (placed_of (blocks_of s w F) (number i))) = subst (Good s w (piece_at f i)) e (screen_good s w (piece_at f i)) in
+      let g : Good s w (piece_at f i) (Ok (placed_of (blocks_of s w F) (number i))) = subst (Good s w (piece_at f i)) e (screen_good s w (piece_at f i)) in
       sym (kind_alone_lem s n w st (piece_at f i)) ∙ sym (ap (λ (x : Head). x.kind) g.head)
 
   page_data : (i : ℕ) → i < F.total → is_page f i ≡ is_data F (number i)

@@ -1,5 +1,5 @@
 -- A file checked before it is sent: the first thing that keeps its pieces from being the blocks of a valid file (demand 3). Assumes nothing.
-use Rattle.std.specs.Prelude.{ℕ, ◌+◌, ◌*◌, ◌/◌, ◌%◌, Bool, true, false, cond, not, ◌&&◌, List, eqb, ltb, length, take, drop}
+use Rattle.std.specs.Prelude.{ℕ, ◌+◌, ◌*◌, ◌/◌, ◌%◌, Bool, true, false, cond, not, ◌&&◌, List, eqb, ltb, length, take, drop, Option, Some, None, Ok, Err, Result, ⊤}
 use Rattle.laws.specs.Sets.{Set, any, least}
 use Rattle.uf2_block.specs.Block.{field_at, has_flag}
 use Rattle.uf2_block.specs.Region.{region_of}
@@ -8,20 +8,19 @@ use Rattle.partitions.specs.Settings.{good_settings}
 use Rattle.partitions.specs.declared.Settings.{Settings}
 use Rattle.placement.specs.Place.{place_of}
 use Rattle.placement.specs.declared.Place.{Place}
-use Rattle.placement.specs.declared.Place.TheVariants.{Nowhere, At}
 use Rattle.transfer.specs.Transfer.{number_of, same_kind}
 use Rattle.transfer.specs.declared.Kind.{Kind}
 use Rattle.transfer.specs.declared.Kind.TheVariants.{Flash}
 use Rattle.transfer.specs.declared.State.TheVariants.{Idle}
-use Rattle.transfer.specs.declared.Answer.{Answer}
-use Rattle.uf2_checks.specs.Screen.{window_of, window_kind, screen_of}
+use Rattle.uf2_checks.specs.Screen.{window_of, window_kind, screen_of, Screening}
 use Rattle.uf2_checks.specs.declared.Lengths.{Lengths}
-use Rattle.uf2_checks.specs.declared.PlacedBlock.{PlacedBlock}
-use Rattle.uf2_checks.specs.declared.Screening.{Screening}
-use Rattle.uf2_checks.specs.declared.Screening.TheVariants as screening
 use Rattle.arrival.specs.Arrive.{right_lengths}
-use Rattle.file_check.specs.declared.Checked.{Checked}
-use Rattle.file_check.specs.declared.Checked.TheVariants.{BadBuffers, BadSettings, Ragged, Empty, Refused, OtherFamily, OtherTotal, OtherKind, SameNumber, Overlap, Missing, Guarded, Valid}
+use Rattle.file_check.specs.declared.FileFault.{FileFault}
+use Rattle.file_check.specs.declared.FileFault.TheVariants.{BadBuffers, BadSettings, Ragged, Empty, Refused, OtherFamily, OtherTotal, OtherKind, SameNumber, Overlap, Missing, Guarded}
+
+-- what a file comes to: nothing is wrong, or the first thing that is
+abbrev pub Checked : Type 0
+Checked = Result ⊤ FileFault
 
 -- ---- the pieces of a file
 
@@ -75,55 +74,44 @@ overlaps f i j = is_page f i && is_page f j && near (field_in f j 12) (field_in 
 
 -- ---- one piece, after those before it
 
--- what is wrong with a piece that passes rows 4 to 11: beside the first piece, then beside the pieces before it; `Valid` is nothing
+-- what is wrong with a piece that passes rows 4 to 11: beside the first piece, then beside the pieces before it; `Ok` is nothing
 unfoldable pub beside_of : Lengths → List ℕ → ℕ → Checked
 beside_of n f i =
-    cond (not (eqb (field_in f i 28) (family_in f))) (OtherFamily i)
-    (cond (not (eqb (field_in f i 24) (total_in f))) (OtherTotal i)
-    (cond (not (same_kind (kind_alone n (piece_at f i)) (kind_in n f))) (OtherKind i)
-    (cond (any i (same_number f i)) (SameNumber i (least i (same_number f i)))
-    (cond (any i (overlaps f i)) (Overlap i (least i (overlaps f i)))
-    Valid))))
+    cond (not (eqb (field_in f i 28) (family_in f))) (Err (OtherFamily i))
+    (cond (not (eqb (field_in f i 24) (total_in f))) (Err (OtherTotal i))
+    (cond (not (same_kind (kind_alone n (piece_at f i)) (kind_in n f))) (Err (OtherKind i))
+    (cond (any i (same_number f i)) (Err (SameNumber i (least i (same_number f i))))
+    (cond (any i (overlaps f i)) (Err (Overlap i (least i (overlaps f i))))
+    (Ok tt)))))
 
 -- by what it is screened to
 abbrev pub screened_to : Lengths → List ℕ → ℕ → Screening → Checked
-screened_to n f i (screening.Refused x) = Refused i x
-screened_to n f i (screening.Passed p) = beside_of n f i
+screened_to n f i (Err x) = Err (Refused i x)
+screened_to n f i (Ok p) = beside_of n f i
 
 -- what is wrong with piece i
 unfoldable pub fault_at : Settings → Lengths → List ℕ → ℕ → Checked
 fault_at s n f i = screened_to n f i (screen_of s n Idle (piece_at f i))
 
 abbrev pub is_valid : Checked → Bool
-is_valid Valid = true
-is_valid BadBuffers = false
-is_valid BadSettings = false
-is_valid Ragged = false
-is_valid Empty = false
-is_valid (Refused i x) = false
-is_valid (OtherFamily i) = false
-is_valid (OtherTotal i) = false
-is_valid (OtherKind i) = false
-is_valid (SameNumber i j) = false
-is_valid (Overlap i j) = false
-is_valid (Missing k) = false
-is_valid (Guarded i) = false
+is_valid (Ok u) = true
+is_valid (Err x) = false
 
 -- the pieces are those of a valid file, with regions or without
 abbrev pub is_sound : Checked → Bool
-is_sound Valid = true
-is_sound (Guarded i) = true
-is_sound BadBuffers = false
-is_sound BadSettings = false
-is_sound Ragged = false
-is_sound Empty = false
-is_sound (Refused i x) = false
-is_sound (OtherFamily i) = false
-is_sound (OtherTotal i) = false
-is_sound (OtherKind i) = false
-is_sound (SameNumber i j) = false
-is_sound (Overlap i j) = false
-is_sound (Missing k) = false
+is_sound (Ok u) = true
+is_sound (Err (Guarded i)) = true
+is_sound (Err BadBuffers) = false
+is_sound (Err BadSettings) = false
+is_sound (Err Ragged) = false
+is_sound (Err Empty) = false
+is_sound (Err (Refused i x)) = false
+is_sound (Err (OtherFamily i)) = false
+is_sound (Err (OtherTotal i)) = false
+is_sound (Err (OtherKind i)) = false
+is_sound (Err (SameNumber i j)) = false
+is_sound (Err (Overlap i j)) = false
+is_sound (Err (Missing k)) = false
 
 -- something is wrong with it
 abbrev pub is_faulty : Settings → Lengths → List ℕ → Set
@@ -136,9 +124,9 @@ abbrev pub is_missing : List ℕ → Set
 is_missing f k = not (numbers_below f (pieces_in f) k)
 
 -- the region that an arrival names counts in a place (02, L9)
-abbrev pub guards_in : Place → List ℕ → Bool
-guards_in Nowhere a = false
-guards_in (At start size) a = good_region size (field_at a 12) (region_of a)
+abbrev pub guards_in : Option Place → List ℕ → Bool
+guards_in None a = false
+guards_in (Some p) a = good_region p.len (field_at a 12) (region_of a)
 
 -- piece i names a region that counts
 abbrev pub is_guarding : Settings → Lengths → List ℕ → Set
@@ -151,9 +139,9 @@ is_guarding s n f i =
 -- every piece is sound: whether every number is there, and whether a region is named
 unfoldable pub whole_of : Settings → Lengths → List ℕ → Checked
 whole_of s n f =
-    cond (not (eqb (pieces_in f) (total_in f))) (Missing (least (total_in f) (is_missing f)))
-    (cond (any (pieces_in f) (is_guarding s n f)) (Guarded (least (pieces_in f) (is_guarding s n f)))
-    Valid)
+    cond (not (eqb (pieces_in f) (total_in f))) (Err (Missing (least (total_in f) (is_missing f))))
+    (cond (any (pieces_in f) (is_guarding s n f)) (Err (Guarded (least (pieces_in f) (is_guarding s n f))))
+    (Ok tt))
 
 -- the first piece with which something is wrong decides
 unfoldable pub pieces_of : Settings → Lengths → List ℕ → Checked
@@ -169,24 +157,27 @@ right_maps n a b c = right_lengths 512 n a 1024 && eqb b 16384 && eqb c 2080
 -- a file f for a board with buffers of lengths n, with maps of a, b and c bytes lent
 unfoldable pub check_of : Settings → Lengths → ℕ → ℕ → ℕ → List ℕ → Checked
 check_of s n a b c f =
-    cond (not (right_maps n a b c)) BadBuffers
-    (cond (not (good_settings s n.flash)) BadSettings
-    (cond (not (eqb (length f % 512) 0)) Ragged
-    (cond (eqb (length f) 0) Empty
+    cond (not (right_maps n a b c)) (Err BadBuffers)
+    (cond (not (good_settings s n.flash)) (Err BadSettings)
+    (cond (not (eqb (length f % 512) 0)) (Err Ragged)
+    (cond (eqb (length f) 0) (Err Empty)
     (pieces_of s n f))))
 
 -- the numbers: 01's answers where there is one, and 80 to 88; a valid file has 0
+abbrev pub fault_number : FileFault → ℕ
+fault_number BadBuffers = 1
+fault_number BadSettings = 2
+fault_number Ragged = 80
+fault_number Empty = 81
+fault_number (Refused i x) = number_of x
+fault_number (OtherFamily i) = 82
+fault_number (OtherTotal i) = 83
+fault_number (OtherKind i) = 84
+fault_number (SameNumber i j) = 85
+fault_number (Overlap i j) = 86
+fault_number (Missing k) = 87
+fault_number (Guarded i) = 88
+
 abbrev pub checked_number : Checked → ℕ
-checked_number BadBuffers = 1
-checked_number BadSettings = 2
-checked_number Ragged = 80
-checked_number Empty = 81
-checked_number (Refused i x) = number_of x
-checked_number (OtherFamily i) = 82
-checked_number (OtherTotal i) = 83
-checked_number (OtherKind i) = 84
-checked_number (SameNumber i j) = 85
-checked_number (Overlap i j) = 86
-checked_number (Missing k) = 87
-checked_number (Guarded i) = 88
-checked_number Valid = 0
+checked_number (Ok u) = 0
+checked_number (Err x) = fault_number x

@@ -4,3 +4,4 @@ pub mod Faults
 pub mod Regions
 pub mod Told
 pub mod FileregionsValid
+pub mod First

@@ -1,6 +1,6 @@
 -- What the answer to a file says: `Valid` exactly if its pieces are the blocks of a file of which demand 3 speaks, in which no region counts; `Guarded`
 -- exactly if they are, and one does; and what then holds once they are delivered. Proved in proofs/. Assumes nothing.
-use Rattle.std.specs.Prelude.{ℕ, ◌*◌, ◌<◌, ◌≡◌, true, List, eqb, ltb, length}
+use Rattle.std.specs.Prelude.{ℕ, ◌*◌, ◌<◌, ◌≡◌, true, List, eqb, ltb, length, Ok, Err}
 use Rattle.laws.specs.Sets.{none, least}
 use Rattle.partitions.specs.declared.Settings.{Settings}
 use Rattle.transfer.specs.declared.State.TheVariants.{Idle, Done}
@@ -8,8 +8,8 @@ use Rattle.uf2_checks.specs.declared.Lengths.{Lengths}
 use Rattle.arrival.specs.Arrive.{World, lengths_of}
 use Rattle.arrival.specs.Lists.{receive_all, answers_of}
 use Rattle.demand.specs.Demand.{File, ValidFile, Plain, Sent, among, head_in, Contents, replies_to}
-use Rattle.file_check.specs.declared.Checked.{Checked}
-use Rattle.file_check.specs.declared.Checked.TheVariants.{Valid, Guarded}
+use Rattle.file_check.specs.Check.{Checked}
+use Rattle.file_check.specs.declared.FileFault.TheVariants.{Guarded}
 use Rattle.file_check.specs.Check.{piece_at, pieces_in, field_in, total_in, family_in, kind_in, check_of, is_sound}
 
 -- an Idle start with buffers of these lengths, whatever they hold
@@ -51,15 +51,15 @@ answer_to s n f = check_of s n 16384 16384 2080 f
 abbrev pub PlainAt : Settings → Lengths → File → Type 0
 PlainAt s n F = (w : World) → Start n w → Plain s w F
 
--- "Valid": the pieces are the blocks of a valid file without regions
+-- valid: the pieces are the blocks of a valid file without regions
 unfoldable pub ValidIsValid : Type 0
 ValidIsValid =
-    (s : Settings) (n : Lengths) (f : List ℕ) → answer_to s n f ≡ Valid → Good s n f (file_of n f) × PlainAt s n (file_of n f)
+    (s : Settings) (n : Lengths) (f : List ℕ) → answer_to s n f ≡ Ok tt → Good s n f (file_of n f) × PlainAt s n (file_of n f)
 
--- "Guarded": they are those of a valid file, and piece i names a region that counts
+-- a region named: they are those of a valid file, and piece i names a region that counts
 unfoldable pub GuardedIsValid : Type 0
 GuardedIsValid =
-    (s : Settings) (n : Lengths) (f : List ℕ) (i : ℕ) → answer_to s n f ≡ Guarded i → Good s n f (file_of n f)
+    (s : Settings) (n : Lengths) (f : List ℕ) (i : ℕ) → answer_to s n f ≡ Err (Guarded i) → Good s n f (file_of n f)
 
 -- and no other file is: whichever File they are the blocks of, valid for one Idle start with buffers of these lengths
 unfoldable pub NothingElseIsValid : Type 0
@@ -71,7 +71,7 @@ NothingElseIsValid =
 unfoldable pub PlainIsValid : Type 0
 PlainIsValid =
     (s : Settings) (w : World) (f : List ℕ) (F : File) → w.transfer ≡ Idle → ValidFile s w F → Pieces f F → Plain s w F
-    → answer_to s (lengths_of w.held) f ≡ Valid
+    → answer_to s (lengths_of w.held) f ≡ Ok tt
 
 -- what stands after every piece came to a board of any content: demand 3's end of a whole set, and its answer to each arrival
 pub record Delivered (s : Settings) (w : World) (F : File) (l : List (List ℕ)) : Type 0 where
@@ -84,6 +84,6 @@ pub record Delivered (s : Settings) (w : World) (F : File) (l : List (List ℕ))
 unfoldable pub ValidArrives : Type 0
 ValidArrives =
     (s : Settings) (w : World) (f : List ℕ) (l : List (List ℕ)) → w.transfer ≡ Idle → length w.seen ≡ 16384 → length w.held.sectors ≡ 1024
-    → answer_to s (lengths_of w.held) f ≡ Valid
+    → answer_to s (lengths_of w.held) f ≡ Ok tt
     → Sent s w (file_of (lengths_of w.held) f) l → ((i : ℕ) → i < pieces_in f → among (piece_at f i) l ≡ true)
     → Delivered s w (file_of (lengths_of w.held) f) l

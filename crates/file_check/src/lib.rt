@@ -3,15 +3,17 @@
 
 pub mod fileregions;
 
-ghost use Rattle.std.specs.Prelude.{◌≡◌};
-ghost use Rattle.file_check.specs.Check.{checked_number, is_valid};
+ghost use Rattle.std.specs.Prelude.{◌≡◌, not};
+ghost use Rattle.uf2_block.specs.Block.{has_flag};
+ghost use Rattle.file_check.specs.Check.{fault_number, checked_number};
 
 use transfer::Answer;
+use uf2_block::Block;
 
-// What a file comes to. Of the numbers the first is the piece, and of two the second is the earlier piece that it collides with; of `Missing` it is
-// the number of a block.
+// The first thing that is wrong with a file, or a region that it names. Of the numbers the first is the piece, and of two the second is the earlier
+// piece that it collides with; of `Missing` it is the number of a block.
 #[derive(Clone, Copy)]
-pub enum Checked {
+pub enum FileFault {
     BadBuffers,
     BadSettings,
     Ragged,
@@ -24,49 +26,43 @@ pub enum Checked {
     Overlap(usize, usize),
     Missing(usize),
     Guarded(usize),
-    Valid,
 }
 
-impl Checked {
-    // The number of what is wrong: a refused piece has that of its answer; 0 for a valid file.
+impl FileFault {
+    // The number of what is wrong: a refused piece has that of its answer.
     pub fn number(self) -> u8
-        ensures { result ≡ checked_number self }
+        ensures { result ≡ fault_number self }
     {
         match self {
-            Checked::BadBuffers => 1,
-            Checked::BadSettings => 2,
-            Checked::Ragged => 80,
-            Checked::Empty => 81,
-            Checked::Refused(_, answer) => answer.number(),
-            Checked::OtherFamily(_) => 82,
-            Checked::OtherTotal(_) => 83,
-            Checked::OtherKind(_) => 84,
-            Checked::SameNumber(_, _) => 85,
-            Checked::Overlap(_, _) => 86,
-            Checked::Missing(_) => 87,
-            Checked::Guarded(_) => 88,
-            Checked::Valid => 0,
+            FileFault::BadBuffers => 1,
+            FileFault::BadSettings => 2,
+            FileFault::Ragged => 80,
+            FileFault::Empty => 81,
+            FileFault::Refused(_, answer) => answer.number(),
+            FileFault::OtherFamily(_) => 82,
+            FileFault::OtherTotal(_) => 83,
+            FileFault::OtherKind(_) => 84,
+            FileFault::SameNumber(_, _) => 85,
+            FileFault::Overlap(_, _) => 86,
+            FileFault::Missing(_) => 87,
+            FileFault::Guarded(_) => 88,
         }
     }
+}
 
-    // Nothing is wrong.
-    pub fn is_valid(self) -> bool
-        ensures { result ≡ is_valid self }
-    {
-        match self {
-            Checked::BadBuffers => false,
-            Checked::BadSettings => false,
-            Checked::Ragged => false,
-            Checked::Empty => false,
-            Checked::Refused(_, _) => false,
-            Checked::OtherFamily(_) => false,
-            Checked::OtherTotal(_) => false,
-            Checked::OtherKind(_) => false,
-            Checked::SameNumber(_, _) => false,
-            Checked::Overlap(_, _) => false,
-            Checked::Missing(_) => false,
-            Checked::Guarded(_) => false,
-            Checked::Valid => true,
-        }
+// The number of what a file comes to: 0 for a valid file.
+pub fn number(checked: Result<(), FileFault>) -> u8
+    ensures { result ≡ checked_number checked }
+{
+    match checked {
+        Ok(()) => 0,
+        Err(fault) => fault.number(),
     }
+}
+
+// Is an arrival data? Any other is a comment.
+pub fn is_data(arrival: &[u8]) -> bool
+    ensures { result ≡ not (has_flag arrival.now 0x1) }
+{
+    uf2_block::field(arrival, 8) / Block::FLAG_NOT_MAIN_FLASH % 2 != 1
 }

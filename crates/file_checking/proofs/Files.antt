@@ -1,43 +1,43 @@
 -- The check of a whole file, by its parts: what the first piece says, every piece, every number, regions, and the conditions before them. Assumes
 -- nothing.
-use Prim.Native.Nat.{ℕ, zero, suc, ◌+◌, ◌*◌, ◌/◌, ◌%◌, ◌<◌, ◌≤◌}
+use Prim.Native.Nat.{ℕ, ◌<◌}
+use Rattle.std.specs.Prelude.{Ok, Err}
 use mathlib.Core.Path.{◌≡◌, refl, sym, ap, subst, ◌∙◌, fun_ext}
 use mathlib.Core.Logic.{◌≢◌}
 use mathlib.Core.Bool.{Bool, true, false, cond, not, ◌&&◌}
 use mathlib.Core.List.{List}
 use native.Mathlib.Omega.{arith}
-use lib.Dec.{eqb, ltb}
+use lib.Dec.{eqb}
 use lib.ListN.{length}
-use borrow.Author.Tests.{eqb-true, eqb-false, eq-eqb, ne_eqb, lt-ltb, not-true, not-false}
+use borrow.Author.Tests.{eqb-true, eq-eqb, ne_eqb, not-true, not-false}
+use Rattle.std.specs.Prelude.{Option}
 use Rattle.laws.specs.Sets.{Set, none, any, least}
 use Rattle.laws.proofs.Tests.{split, clash, and_left, and_right}
-use Rattle.laws.proofs.Laws.{any_none, any_all, any_cong, least_none, least_below}
+use Rattle.laws.proofs.Laws.{any_none, any_all, any_cong, least_below}
 use Rattle.memory.specs.Bitmap.{marked_in, unmarked, map_of}
 use Rattle.memory.proofs.bitmap.MapLaws.{map_none, marked_map}
 use Rattle.memory.specs.Cells.{Kept}
 use Rattle.memory.proofs.cells.Laws.{kept_none}
 use Rattle.memory.proofs.bitmap.Laws.{length_unmarked}
-use Rattle.uf2_block.specs.Block.{has_flag}
+use Rattle.uf2_block.specs.Block.{field_at, has_flag}
 use Rattle.partitions.specs.Settings.{good_settings}
 use Rattle.partitions.specs.declared.Settings.{Settings}
 use Rattle.placement.specs.Place.{place_of}
-use Rattle.placement.specs.declared.Place.{Place}
 use Rattle.transfer.specs.Transfer.{same_kind, head_with}
 use Rattle.transfer.specs.declared.Kind.{Kind}
 use Rattle.transfer.specs.declared.Kind.TheVariants.{Flash}
 use Rattle.transfer.specs.declared.Head.{Head}
-use Rattle.uf2_checks.specs.Screen.{window_of, window_kind, rooms_of}
+use Rattle.uf2_checks.specs.Screen.{rooms_of, Window}
 use Rattle.uf2_checks.specs.declared.Lengths.{Lengths}
-use Rattle.uf2_checks.specs.declared.Window.{Window}
 use Rattle.uf2_checks.specs.declared.Rooms.{Rooms}
 use Rattle.arrival.specs.Arrive.{right_lengths}
 use Rattle.arrival_claims.proofs.Screening.{passing_few}
 use Rattle.arrival_claims.proofs.DecisionFacts.{right_true}
 use Rattle.trace_counts.specs.Counts as counts
-use Rattle.file_check.specs.declared.Checked.{Checked}
-use Rattle.file_check.specs.declared.Checked.TheVariants.{BadBuffers, BadSettings, Ragged, Empty, Missing, Guarded, Valid}
-use Rattle.file_check.specs.Check.{piece_at, pieces_in, field_in, is_page, total_in, family_in, kind_in, numbers_below, fault_at, is_valid, is_faulty, is_missing, is_guarding, whole_of, pieces_of, right_maps, check_of}
-use Rattle.file_check.proofs.Sound.{Fine, fine, board_of_lem, passing_of}
+use Rattle.file_check.specs.declared.FileFault.TheVariants.{Missing, Guarded}
+use Rattle.file_check.specs.Check.{Checked, piece_at, pieces_in, field_in, is_page, total_in, family_in, kind_in, numbers_below, fault_at, is_valid, is_faulty, is_missing, is_guarding, whole_of, pieces_of, right_maps, check_of}
+use Rattle.file_check.proofs.First.{least_cong}
+use Rattle.file_check.proofs.Sound.{fine, board_of_lem, passing_of}
 use Rattle.file_check.proofs.Theorems.{empty, empty_start}
 use Rattle.file_checking.specs.Pieces.Parts.{Maps, maps, file_head, starts_below, Holds}
 use Rattle.file_checking.specs.Regions.Guarding.{guards_alone, guards_at}
@@ -48,48 +48,19 @@ use Rattle.file_checking.specs.Parts.{first_of, Opened, kind_if, guarded_by, Cou
 kind_if_lem : (n : Lengths) (f : List ℕ) → kind_if (is_page f 0) n (field_in f 0 12) ≡ kind_in n f
 kind_if_lem n f = split (has_flag (piece_at f 0) 0x1) (λ y. rw y) (λ z. rw z)
 
-pub kind_page : (n : Lengths) (x : ℕ) (p : Bool) → p ≡ true → {u : Window} → u ≡ window_of n x → {k : Kind} → k ≡ window_kind u → k ≡ kind_if p n x
-kind_page n x p y e q = q ∙ ap window_kind e ∙ (λ t. cond (sym y t) (window_kind (window_of n x)) Flash)
-
-pub head_is : (n : Lengths) (f : List ℕ) {p : Bool} {x fam tot : ℕ} {k : Kind} {h : Head} → p ≡ is_page f 0 → x ≡ field_in f 0 12 → fam ≡ family_in f → tot ≡ total_in f
-    → k ≡ kind_if p n x → h ≡ head_with k fam tot → h ≡ file_head n f
-head_is n f p x g t k e =
-    e ∙ (λ i. head_with (k i) (g i) (t i)) ∙ ap (λ (u : Kind). head_with u (family_in f) (total_in f)) ((λ i. kind_if (p i) n (x i)) ∙ kind_if_lem n f)
+pub head_is : (n : Lengths) (f : List ℕ) {a : List ℕ} {p : Bool} {x fam tot : ℕ} {k : Kind} {h : Head} → a ≡ piece_at f 0 → p ≡ not (has_flag a 0x1) → x ≡ field_at a 12 → fam ≡ field_at a 28
+    → tot ≡ field_at a 24 → k ≡ kind_if p n x → h ≡ head_with k fam tot → h ≡ file_head n f
+head_is n f z p x g t k e =
+    let p' : _ ≡ is_page f 0 = p ∙ ap (λ (a : List ℕ). not (has_flag a 0x1)) z in
+    let x' : _ ≡ field_in f 0 12 = x ∙ ap (λ (a : List ℕ). field_at a 12) z in
+    let g' : _ ≡ family_in f = g ∙ ap (λ (a : List ℕ). field_at a 28) z in
+    let t' : _ ≡ total_in f = t ∙ ap (λ (a : List ℕ). field_at a 24) z in
+    e ∙ (λ i. head_with (k i) (g' i) (t' i)) ∙ ap (λ (u : Kind). head_with u (family_in f) (total_in f)) ((λ i. kind_if (p' i) n (x' i)) ∙ kind_if_lem n f)
 
 -- ---- regions
 
--- tests that agree below n have the same least number there
-least_cong : (n : ℕ) (P Q : Set) → ((j : ℕ) → j < n → P j ≡ Q j) → least n P ≡ least n Q
-unfolding least
-least_cong zero P Q h = refl
-least_cong (suc n) P Q h =
-    rw (any_cong n P Q (λ j l. h j (omega arith)), least_cong n P Q (λ j l. h j (omega arith)), h n (omega arith))
-
-module _ (p : Place) (k : Kind) (f : List ℕ) where
-  pub in_ram : {b : Bool} → b ≡ same_kind k Flash → not b ≡ true → Valid ≡ guarded_by p k f
-  unfolding guarded_by
-  in_ram {b} e y = let z : same_kind k Flash ≡ false = sym e ∙ not-true b y in rw z
-
-  module _ {b : Bool} (e : b ≡ same_kind k Flash) (y : not b ≡ false) {i : ℕ} (q : i ≡ least (pieces_in f) (guards_at p f)) where
-    flash : same_kind k Flash ≡ true
-    flash = sym e ∙ not-false b y
-
-    pub one_guards : i < pieces_in f → Guarded i ≡ guarded_by p k f
-    unfolding guarded_by
-    one_guards l =
-        split (any (pieces_in f) (guards_at p f))
-        (λ t. rw (flash, t) (ap Guarded q))
-        (λ z. let d = least_none (guards_at p f) (pieces_in f) z in absurd (omega (arith, d, q)))
-
-    pub none_guards : pieces_in f ≤ i → Valid ≡ guarded_by p k f
-    unfolding guarded_by
-    none_guards l =
-        split (any (pieces_in f) (guards_at p f))
-        (λ t. let d = (least_below (guards_at p f) (pieces_in f) t).0 in absurd (omega (arith, d, q)))
-        (λ z. rw (flash, z))
-
 guarded_is : (s : Settings) (n : Lengths) (f : List ℕ)
-    → guarded_by (place_of s n.flash (family_in f)) (kind_in n f) f ≡ cond (any (pieces_in f) (is_guarding s n f)) (Guarded (least (pieces_in f) (is_guarding s n f))) Valid
+    → guarded_by (place_of s n.flash (family_in f)) (kind_in n f) f ≡ cond (any (pieces_in f) (is_guarding s n f)) (Err (Guarded (least (pieces_in f) (is_guarding s n f)))) (Ok tt)
 unfolding guarded_by guards_alone
 guarded_is s n f =
     split (same_kind (kind_in n f) Flash)
@@ -97,11 +68,11 @@ guarded_is s n f =
     let same : (j : ℕ) → j < pieces_in f → guards_at (place_of s n.flash (family_in f)) f j ≡ is_guarding s n f j = λ j l. rw y in
     let a = any_cong (pieces_in f) (guards_at (place_of s n.flash (family_in f)) f) (is_guarding s n f) same in
     let b = least_cong (pieces_in f) (guards_at (place_of s n.flash (family_in f)) f) (is_guarding s n f) same in
-    (λ t. cond (y t) (cond (a t) (Guarded (b t)) Valid) Valid))
+    (λ t. cond (y t) (cond (a t) (Err (Guarded (b t))) (Ok tt)) (Ok tt)))
     (λ z.
     let e : any (pieces_in f) (is_guarding s n f) ≡ false = any_none (is_guarding s n f) (pieces_in f) (λ j l. rw z) in
-    (λ t. cond (z t) (cond (any (pieces_in f) (guards_at (place_of s n.flash (family_in f)) f)) (Guarded (least (pieces_in f) (guards_at (place_of s n.flash (family_in f)) f))) Valid) Valid)
-    ∙ sym (λ t. cond (e t) (Guarded (least (pieces_in f) (is_guarding s n f))) Valid))
+    (λ t. cond (z t) (cond (any (pieces_in f) (guards_at (place_of s n.flash (family_in f)) f)) (Err (Guarded (least (pieces_in f) (guards_at (place_of s n.flash (family_in f)) f)))) (Ok tt)) (Ok tt))
+    ∙ sym (λ t. cond (e t) (Err (Guarded (least (pieces_in f) (is_guarding s n f)))) (Ok tt)))
 
 -- ---- all of them
 
@@ -109,12 +80,12 @@ module _ (s : Settings) (n : Lengths) (f m : List ℕ) (ct : Counted f m) {h : H
   missing_same : (k : ℕ) → k < total_in f → counts.is_missing m k ≡ is_missing f k
   missing_same k l = ap not ((λ t. marked_in (ct.numbers t) k) ∙ marked_map 16384 (numbers_below f (pieces_in f)) k (omega (arith, ct.few)))
 
-  pub number_missing : pieces_in f ≢ h.total → {k : ℕ} → k ≡ least h.total (counts.is_missing m) → Missing k ≡ whole_of s n f
+  pub number_missing : pieces_in f ≢ h.total → {k : ℕ} → k ≡ least h.total (counts.is_missing m) → Err (Missing k) ≡ whole_of s n f
   unfolding whole_of
   number_missing d {k} e =
       let t : h.total ≡ total_in f = ap (λ (x : Head). x.total) hd in
       let z : eqb (pieces_in f) (total_in f) ≡ false = ne_eqb _ _ (λ q. d (q ∙ sym t)) in
-      rw z (ap Missing (e ∙ ap (λ (x : ℕ). least x (counts.is_missing m)) t ∙ least_cong (total_in f) (counts.is_missing m) (is_missing f) missing_same))
+      rw z (ap (λ (x : ℕ). Err (Missing x)) (e ∙ ap (λ (x : ℕ). least x (counts.is_missing m)) t ∙ least_cong (total_in f) (counts.is_missing m) (is_missing f) missing_same))
 
   pub numbers_whole : pieces_in f ≡ h.total → {r : Rooms} → r ≡ rooms_of s n.flash h.family → {x : Checked} → x ≡ guarded_by r.flash h.kind f → x ≡ whole_of s n f
   unfolding whole_of
@@ -142,7 +113,7 @@ module _ (s : Settings) (n : Lengths) (f : List ℕ) where
   fault_first e v =
       split (any (pieces_in f) (is_faulty s n f))
       (λ y. rw y (e ∙ rw y))
-      (λ z. let q : first_of s n f ≡ Valid = rw z in clash (is_valid Valid) refl (sym (ap is_valid (e ∙ q)) ∙ v))
+      (λ z. let q : first_of s n f ≡ Ok tt = rw z in clash (is_valid (Ok tt)) refl (sym (ap is_valid (e ∙ q)) ∙ v))
 
   pub no_fault : {x : Checked} → x ≡ first_of s n f → is_valid x ≡ true → {r : Checked} → r ≡ whole_of s n f → r ≡ pieces_of s n f
   unfolding pieces_of
@@ -182,43 +153,6 @@ module _ (s : Settings) (n : Lengths) (f : List ℕ) (a b c : List ℕ) (cl : Cl
         good = good;
         held = subst (Holds s n f 0) (sym (λ t. maps ((cl.numbers ∙ ap unmarked e) t) ((cl.cells ∙ ap unmarked l.1) t) ((cl.offsets ∙ ap unmarked l.2) t))) (holds_none s n f);
       }
-
--- ---- the conditions in their order
-
-module _ (s : Settings) (n : Lengths) (a b c : ℕ) (f : List ℕ) where
-  pub bad_buffers : {x : Bool} → x ≡ right_maps n a b c → not x ≡ true → BadBuffers ≡ check_of s n a b c f
-  unfolding check_of
-  bad_buffers {x} e y = let z : right_maps n a b c ≡ false = sym e ∙ not-true x y in rw z
-
-  module _ {x : Bool} (e : x ≡ right_maps n a b c) (y : not x ≡ false) where
-    pub right_is : right_maps n a b c ≡ true
-    right_is = sym e ∙ not-false x y
-
-    pub bad_settings : {g : Bool} → g ≡ good_settings s n.flash → not g ≡ true → BadSettings ≡ check_of s n a b c f
-    unfolding check_of
-    bad_settings {g} h z = let w : good_settings s n.flash ≡ false = sym h ∙ not-true g z in rw (right_is, w)
-
-    module _ {g : Bool} (h : g ≡ good_settings s n.flash) (z : not g ≡ false) where
-      pub good_is : good_settings s n.flash ≡ true
-      good_is = sym h ∙ not-false g z
-
-      pub ragged : length f % 512 ≢ 0 → Ragged ≡ check_of s n a b c f
-      unfolding check_of
-      ragged d = let w : eqb (length f % 512) 0 ≡ false = ne_eqb _ _ d in rw (right_is, good_is, w)
-
-      pub nothing_there : length f % 512 ≡ 0 → length f ≡ 0 → Empty ≡ check_of s n a b c f
-      unfolding check_of
-      nothing_there d q =
-          let w : eqb (length f % 512) 0 ≡ true = eq-eqb _ _ d in
-          let v : eqb (length f) 0 ≡ true = eq-eqb _ _ q in
-          rw (right_is, good_is, w, v)
-
-      pub by_pieces : length f % 512 ≡ 0 → length f ≢ 0 → {r : Checked} → r ≡ pieces_of s n f → r ≡ check_of s n a b c f
-      unfolding check_of
-      by_pieces d q t =
-          let w : eqb (length f % 512) 0 ≡ true = eq-eqb _ _ d in
-          let v : eqb (length f) 0 ≡ false = ne_eqb _ _ q in
-          t ∙ sym (rw (right_is, good_is, w, v))
 
 -- the maps are cleared, and keep their lengths
 pub same_lengths : (s : Settings) (n : Lengths) (f : List ℕ) {a b c a' b' c' : ℕ} → a ≡ a' → b ≡ b' → c ≡ c' → {x : Checked} → x ≡ check_of s n a b c f → x ≡ check_of s n a' b' c' f

@@ -1,33 +1,29 @@
 -- The laws of the loop over the pieces. Assumes nothing.
-use Prim.Native.Nat.{ℕ, suc, ◌+◌, ◌/◌, ◌<◌, ◌≤◌}
+use Prim.Native.Nat.{ℕ, suc, ◌+◌, ◌<◌}
+use Rattle.std.specs.Prelude.{Ok}
 use mathlib.Core.Path.{◌≡◌, refl, sym, ap, subst, ◌∙◌}
-use mathlib.Core.Bool.{Bool, true, false, cond, not}
+use mathlib.Core.Bool.{true, false, not}
 use mathlib.Core.List.{List}
 use native.Mathlib.Numerals.{add-one}
-use native.Mathlib.Omega.{arith}
 use lib.Dec.{eqb}
 use borrow.Author.Tests.{eqb-true, not-false}
-use Rattle.laws.specs.Sets.{any, least}
+use Rattle.std.specs.Prelude.{Ok, Err}
+use Rattle.laws.specs.Sets.{any}
 use Rattle.laws.proofs.Tests.{split, clash}
-use Rattle.laws.proofs.Laws.{any_hit, any_all, any_more, least_is}
+use Rattle.laws.proofs.Laws.{any_hit, any_all, least_is}
 use Rattle.uf2_block.specs.Block.{field_at}
 use Rattle.partitions.specs.declared.Settings.{Settings}
 use Rattle.placement.specs.Place.{StartsLow}
-use Rattle.placement.specs.declared.Place.{Place}
 use Rattle.transfer.specs.declared.Head.{Head}
 use Rattle.transfer.specs.declared.State.TheVariants.{Idle}
-use Rattle.uf2_checks.specs.Screen.{rooms_of, screen_in, screen_of, screen_at}
+use Rattle.uf2_checks.specs.Screen.{rooms_of, screen_in, screen_of, screen_at, Screening}
 use Rattle.uf2_checks.proofs.Laws.{low_kept}
 use Rattle.uf2_checks.specs.declared.Lengths.{Lengths}
 use Rattle.uf2_checks.specs.declared.Rooms.{Rooms}
 use Rattle.uf2_checks.specs.declared.PlacedBlock.{PlacedBlock}
-use Rattle.uf2_checks.specs.declared.Screening.{Screening}
-use Rattle.uf2_checks.specs.declared.Screening.TheVariants as screening
 use Rattle.uf2_known.specs.Judged.{rooms_at, rooms_next}
 use Rattle.uf2_known.specs.declared.judged.FamilyRooms.{FamilyRooms}
-use Rattle.file_check.specs.declared.Checked.{Checked}
-use Rattle.file_check.specs.declared.Checked.TheVariants.{Valid}
-use Rattle.file_check.specs.Check.{piece_at, pieces_in, field_in, beside_of, screened_to, fault_at, is_valid, is_faulty}
+use Rattle.file_check.specs.Check.{Checked, piece_at, pieces_in, field_in, screened_to, fault_at, is_valid, is_faulty}
 use Rattle.file_check.proofs.Sound.{Fine, fine, board_of_lem}
 use Rattle.file_check.proofs.Theorems.{empty, empty_start}
 use Rattle.file_checking.specs.Pieces.Parts.{Maps, file_head, entered, beside_by, maps_by, screened_by, maps_then, Holds}
@@ -68,8 +64,8 @@ module _ (s : Settings) (n : Lengths) (f : List ℕ) {m₀ : Maps} (op : Opened 
   said = screen_known s n (piece_at f i) (ap (λ (x : FamilyRooms). x.rooms) kept) low
 
   by_screening : (x : Screening) → screen_of s n Idle (piece_at f i) ≡ x → screened_by (file_head n f) f i m x ≡ screened_to n f i x
-  by_screening (screening.Refused x) e = refl
-  by_screening (screening.Passed p) e =
+  by_screening (Err x) e = refl
+  by_screening (Ok p) e =
       beside_is s n f (empty n) (empty_start n) (board_of_lem s n (empty n) (empty_start n) op.right op.good) i m held h fines p e
 
   pub found_is : {found : Checked} → found ≡ screened_by head f i m (screen_at k.rooms n Idle (piece_at f i)) → found ≡ fault_at s n f i
@@ -77,8 +73,8 @@ module _ (s : Settings) (n : Lengths) (f : List ℕ) {m₀ : Maps} (op : Opened 
   found_is e = e ∙ (λ t. screened_by (hd t) f i m (said t)) ∙ by_screening (screen_of s n Idle (piece_at f i)) refl
 
   after : (x : Screening) → screen_of s n Idle (piece_at f i) ≡ x → is_valid (screened_to n f i x) ≡ true → Holds s n f (suc i) (maps_then (file_head n f) f i m x)
-  after (screening.Refused x) e v = clash false v refl
-  after (screening.Passed p) e v =
+  after (Err x) e v = clash false v refl
+  after (Ok p) e v =
       let B = board_of_lem s n (empty n) (empty_start n) op.right op.good in
       let q : is_valid (beside_by (file_head n f) p f i m) ≡ true = ap is_valid (beside_is s n f (empty n) (empty_start n) B i m held h fines p e) ∙ v in
       subst (Holds s n f (suc i)) (sym (maps_valid (file_head n f) p f i m q)) (holds_next s n f (empty n) (empty_start n) B i m held h fines p e v)
@@ -100,6 +96,6 @@ first_told s n f i h clean e z =
     let y : is_faulty s n f i ≡ true = ap (λ (x : Checked). not (is_valid x)) (sym e) ∙ ap not z in
     rw (any_hit (is_faulty s n f) (pieces_in f) i h y, least_is (is_faulty s n f) (pieces_in f) i h clean y) e
 
-pub none_told : (s : Settings) (n : Lengths) (f : List ℕ) → any (pieces_in f) (is_faulty s n f) ≡ false → Valid ≡ first_of s n f
+pub none_told : (s : Settings) (n : Lengths) (f : List ℕ) → any (pieces_in f) (is_faulty s n f) ≡ false → Ok tt ≡ first_of s n f
 unfolding first_of
 none_told s n f e = rw e

@@ -1,5 +1,5 @@
 -- The check of a file, cut as the code does it. Assumes nothing.
-use Rattle.std.specs.Prelude.{ℕ, ◌≤◌, ◌≡◌, Bool, true, cond, List, length}
+use Rattle.std.specs.Prelude.{ℕ, ◌≤◌, ◌≡◌, Bool, true, cond, List, length, Option, Ok, Err}
 use Rattle.laws.specs.Sets.{any, least}
 use Rattle.memory.specs.Bitmap.{unmarked, map_of}
 use Rattle.partitions.specs.Settings.{good_settings}
@@ -14,15 +14,14 @@ use Rattle.uf2_known.specs.declared.judged.FamilyRooms.{FamilyRooms}
 use Rattle.uf2_checks.specs.Screen.{window_of, window_kind}
 use Rattle.uf2_checks.specs.declared.Lengths.{Lengths}
 use Rattle.arrival.specs.Arrive.{right_lengths}
-use Rattle.file_check.specs.declared.Checked.{Checked}
-use Rattle.file_check.specs.declared.Checked.TheVariants.{Guarded, Valid}
-use Rattle.file_check.specs.Check.{pieces_in, total_in, numbers_below, fault_at, is_faulty}
+use Rattle.file_check.specs.declared.FileFault.TheVariants.{Guarded}
+use Rattle.file_check.specs.Check.{Checked, pieces_in, total_in, numbers_below, fault_at, is_faulty}
 use Rattle.file_checking.specs.Pieces.Parts.{Maps, Holds}
 use Rattle.file_checking.specs.Regions.Guarding.{guards_at}
 
 -- what is wrong with the first piece with which something is
 unfoldable pub first_of : Settings → Lengths → List ℕ → Checked
-first_of s n f = cond (any (pieces_in f) (is_faulty s n f)) (fault_at s n f (least (pieces_in f) (is_faulty s n f))) Valid
+first_of s n f = cond (any (pieces_in f) (is_faulty s n f)) (fault_at s n f (least (pieces_in f) (is_faulty s n f))) (Ok tt)
 
 -- a board that rows 1 and 2 let through, and cleared maps
 pub record Opened (s : Settings) (n : Lengths) (f : List ℕ) (m : Maps) : Type 0 where
@@ -40,11 +39,11 @@ abbrev pub kind_if : Bool → Lengths → ℕ → Kind
 kind_if p n x = cond p (window_kind (window_of n x)) Flash
 
 -- of a file of kind k whose family has place p: the first piece that names a region that counts
-unfoldable pub guarded_by : Place → Kind → List ℕ → Checked
+unfoldable pub guarded_by : Option Place → Kind → List ℕ → Checked
 guarded_by p k f =
     cond (same_kind k Flash)
-    (cond (any (pieces_in f) (guards_at p f)) (Guarded (least (pieces_in f) (guards_at p f))) Valid)
-    Valid
+    (cond (any (pieces_in f) (guards_at p f)) (Err (Guarded (least (pieces_in f) (guards_at p f)))) (Ok tt))
+    (Ok tt)
 
 -- after every piece, each of which was sound: the map of the numbers is theirs, and the total is one that the map has room for
 pub record Counted (f m : List ℕ) : Type 0 where

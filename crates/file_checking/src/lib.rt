@@ -5,13 +5,14 @@ mod earlier;
 mod piece;
 mod regions;
 
-ghost use Rattle.std.specs.Prelude.{◌≡◌, true, ◌<◌, ◌/◌, length};
+ghost use Rattle.std.specs.Prelude.{◌≡◌, ◌<◌, ◌/◌, length, OnOk};
 ghost use Rattle.memory.specs.Bitmap.{unmarked};
-ghost use Rattle.file_check.specs.Check.{is_valid, whole_of, pieces_of, right_maps, check_of};
+ghost use Rattle.file_check.specs.Check.{whole_of, pieces_of, right_maps, check_of};
 ghost use Rattle.file_checking.specs.Pieces.Parts.{maps, file_head, Holds};
 ghost use Rattle.file_checking.specs.Parts.{first_of, Opened, kind_if, guarded_by, Counted, Cleared};
 
-use file_check::Checked;
+use crate::earlier::Piece;
+use file_check::FileFault;
 use partitions::Settings;
 use placement::Place;
 use transfer::{Head, Kind};
@@ -41,10 +42,11 @@ fn head_of(lens: Lengths, file: &[u8]) -> Head
     requires { 0 < length file.now / 512 }
     ensures { result ≡ file_head lens file.now }
 {
-    let page = crate::earlier::is_page(file, 0);
-    let address = crate::earlier::field_in(file, 0, 12);
-    let family = crate::earlier::field_in(file, 0, 28);
-    let total = crate::earlier::field_in(file, 0, 24);
+    let first = crate::earlier::bytes_at(file, 0);
+    let page = file_check::is_data(first);
+    let address = uf2_block::field(first, 12);
+    let family = uf2_block::field(first, 28);
+    let total = uf2_block::field(first, 24);
     let kind = kind_of(page, lens, address);
     Head::new(kind, family, total)
 }
@@ -58,11 +60,11 @@ fn each_piece(
     numbers: &mut [u8],
     cells: &mut [u8],
     offsets: &mut [u8],
-) -> Checked
+) -> Result<(), FileFault>
     requires opened { Opened settings lens file.now (maps numbers.old cells.old offsets.old) }
     requires first { head ≡ file_head lens file.now }
     ensures value { result ≡ first_of settings lens file.now }
-    ensures held { is_valid result ≡ true → Holds settings lens file.now (length file.now / 512) (maps numbers.new cells.new offsets.new) }
+    ensures held { OnOk result (Holds settings lens file.now (length file.now / 512) (maps numbers.new cells.new offsets.new)) }
 {
     let n = file.len() / Block::ARRIVAL;
     let rooms = uf2_checks::family::rooms_for(settings, lens.flash, head.family);
@@ -70,45 +72,44 @@ fn each_piece(
         family: head.family,
         rooms,
     };
-    let mut i: usize = 0;
-    while i < n {
-        let after = i + 1;
-        let family = crate::earlier::field_in(file, i, 28);
+    for i in 0..n {
+        let piece = Piece { file, i };
+        let family = uf2_block::field(piece.bytes(), 28);
         kept = uf2_known::judged::next(kept, settings, lens.flash, family);
-        let found = crate::piece::check_piece(
-            kept.rooms, lens, head, file, i, numbers, cells, offsets,
-        );
-        if !found.is_valid() {
-            return found;
-        }
-        i = after;
+        crate::piece::check_piece(kept.rooms, lens, head, piece, numbers, cells, offsets)?;
     }
-    Checked::Valid
+    Ok(())
 }
 
 // Of a file for the flash the first piece that names a region that counts.
-fn guarded(place: Place, kind: Kind, file: &[u8]) -> Checked
+#[tactic(auto, using(file_check::proofs::First::first_some, file_check::proofs::First::first_none, transfer::proofs::Laws::kinds_are), unfolding(crate::specs::Parts::guarded_by))]
+fn guarded(place: Option<Place>, kind: Kind, file: &[u8]) -> Result<(), FileFault>
     ensures { result ≡ guarded_by place kind file.now }
 {
-    if !transfer::same_kind(kind, Kind::Flash) {
-        return Checked::Valid;
+    if kind != Kind::Flash {
+        return Ok(());
     }
-    let i = crate::regions::first_guarding(place, file);
-    if i < file.len() / Block::ARRIVAL {
-        return Checked::Guarded(i);
+    match crate::regions::first_guarding(place, file) {
+        Some(i) => Err(FileFault::Guarded(i)),
+        None => Ok(()),
     }
-    Checked::Valid
 }
 
 // Every piece is sound: whether every number came, and whether a region is named.
-fn whole(settings: Settings, lens: Lengths, head: Head, file: &[u8], numbers: &[u8]) -> Checked
+fn whole(
+    settings: Settings,
+    lens: Lengths,
+    head: Head,
+    file: &[u8],
+    numbers: &[u8],
+) -> Result<(), FileFault>
     requires counted { Counted file.now numbers.now }
     requires first { head ≡ file_head lens file.now }
     ensures { result ≡ whole_of settings lens file.now }
 {
     let total = head.total;
     if file.len() / Block::ARRIVAL != total as usize {
-        return Checked::Missing(trace_counts::gaps::first_missing(numbers, total) as usize);
+        return Err(FileFault::Missing(trace_counts::gaps::first_missing(numbers, total) as usize));
     }
     let rooms = uf2_checks::family::rooms_for(settings, lens.flash, head.family);
     let place = rooms.flash;
@@ -124,20 +125,18 @@ fn every_piece(
     numbers: &mut [u8],
     cells: &mut [u8],
     offsets: &mut [u8],
-) -> Checked
+) -> Result<(), FileFault>
     requires opened { Opened settings lens file.now (maps numbers.old cells.old offsets.old) }
     requires some { 0 < length file.now / 512 }
     ensures { result ≡ pieces_of settings lens file.now }
 {
     let head = head_of(lens, file);
-    let found = each_piece(settings, lens, head, file, numbers, cells, offsets);
-    if !found.is_valid() {
-        return found;
-    }
+    each_piece(settings, lens, head, file, numbers, cells, offsets)?;
     whole(settings, lens, head, file, numbers)
 }
 
 // Are the lengths of a board's buffers and of the three maps right?
+#[tactic(auto, unfolding(file_check::specs::Check::right_maps))]
 fn right_maps(lens: Lengths, a: usize, b: usize, c: usize) -> bool
     ensures { result ≡ right_maps lens a b c }
 {
@@ -147,7 +146,7 @@ fn right_maps(lens: Lengths, a: usize, b: usize, c: usize) -> bool
 }
 
 // The conditions in their order, with cleared maps.
-#[tactic(auto, using(crate::proofs::Files::nothing_there, crate::proofs::Files::by_pieces))]
+#[tactic(auto, unfolding(file_check::specs::Check::check_of))]
 fn judge(
     settings: Settings,
     lens: Lengths,
@@ -155,25 +154,26 @@ fn judge(
     numbers: &mut [u8],
     cells: &mut [u8],
     offsets: &mut [u8],
-) -> Checked
+) -> Result<(), FileFault>
     requires { Cleared (maps numbers.old cells.old offsets.old) }
     ensures { result ≡ check_of settings lens (length numbers.old) (length cells.old) (length offsets.old) file.now }
 {
     if !right_maps(lens, numbers.len(), cells.len(), offsets.len()) {
-        return Checked::BadBuffers;
+        return Err(FileFault::BadBuffers);
     }
     if !partitions::validity::good(settings, lens.flash) {
-        return Checked::BadSettings;
+        return Err(FileFault::BadSettings);
     }
     if file.len() % Block::ARRIVAL != 0 {
-        return Checked::Ragged;
+        return Err(FileFault::Ragged);
     }
     if file.len() == 0 {
-        return Checked::Empty;
+        return Err(FileFault::Empty);
     }
     every_piece(settings, lens, file, numbers, cells, offsets)
 }
 
+// Kept, proof: three maps and no struct of them. The borrow checker does not cover a call that lends two fields of a struct, as `put_start` needs.
 fn clear_maps(numbers: &mut [u8], cells: &mut [u8], offsets: &mut [u8])
     ensures { (numbers.new ≡ unmarked (length numbers.old)) × (cells.new ≡ unmarked (length cells.old)) × (offsets.new ≡ unmarked (length offsets.old)) }
 {
@@ -191,7 +191,7 @@ pub fn check(
     numbers: &mut [u8],
     cells: &mut [u8],
     offsets: &mut [u8],
-) -> Checked
+) -> Result<(), FileFault>
     ensures value { result ≡ check_of settings lens (length numbers.old) (length cells.old) (length offsets.old) file.now }
     ensures left { (numbers.new ≡ unmarked (length numbers.old)) × (cells.new ≡ unmarked (length cells.old)) × (offsets.new ≡ unmarked (length offsets.old)) }
 {

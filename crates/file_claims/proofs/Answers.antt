@@ -11,9 +11,8 @@ use borrow.Author.Tests.{eq-eqb, ne_eqb, eqb-true, lt-ltb, le-ltb}
 use Rattle.laws.specs.Bytes.{number_in}
 use Rattle.laws.proofs.Tests.{split, is_false, and_left, and_right}
 use Rattle.uf2_block.specs.Block.{field_at, is_block, has_flag}
-use Rattle.uf2_tags.specs.declared.one_tag.Answer.{Answer}
-use Rattle.uf2_tags.specs.declared.one_tag.Answer.TheVariants.{Tag as a-tag}
-use Rattle.uf2_tags.specs.Tag.{tag_of, sized}
+use Rattle.std.specs.Prelude.{Ok, Some}
+use Rattle.uf2_tags.specs.Tag.{Answer, tag_of, sized}
 use Rattle.uf2_tags.proofs.one_tag.Laws.{sized_end, sized_typed, sized_small, sized_past, sized_tag}
 use Rattle.uf2_tags.specs.Room.{first_place, kind_at, room_end, bad_payload, bad_place, stands_at, tag_at}
 use Rattle.uf2_tags.proofs.room.Laws.{at_length, at_other, at_clear, at_payload, at_stands, stands_place, stands_none, stands_tag}

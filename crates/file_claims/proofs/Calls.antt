@@ -10,14 +10,15 @@ use lib.Seq.{length-take-le, get_or-take, get_or-drop}
 use lib.Dec.{ltb, leb, eqb}
 use denote.Ref.{Bor}
 use borrow.Author.Tests.{eqb-true, eqb-false}
+use Rattle.std.specs.Prelude.{Err}
 use Rattle.laws.proofs.Tests.{split, or_right}
 use Rattle.uf2_block.specs.Block.{field_at, has_flag, flagged_of, is_block, header_of}
-use Rattle.uf2_block.specs.declared.Header.TheVariants.{NotBlock as no_Header}
+use Rattle.uf2_block.specs.declared.HeaderError.TheVariants.{NotBlock as no_Header}
 use Rattle.uf2_block.proofs.Laws.{header_is_block, flagged_other}
 use Rattle.uf2_tags.specs.declared.one_tag.Tag.{Tag}
-use Rattle.uf2_tags.specs.declared.one_tag.Answer.{Answer}
-use Rattle.uf2_tags.specs.declared.one_tag.Answer.TheVariants.{End, BadLength, BadPlace, NotBlock, BadPayload, ShortTag, TypedEnd, PastRoom, NoRoom}
-use Rattle.uf2_tags.specs.Tag.{tag_of, contents_of, sized, answer_number, is_tag}
+use Rattle.std.specs.Prelude.{Ok, None, Err}
+use Rattle.uf2_tags.specs.declared.one_tag.TagError.TheVariants.{BadLength, BadPlace, NotBlock, BadPayload, ShortTag, TypedEnd, PastRoom, NoRoom}
+use Rattle.uf2_tags.specs.Tag.{Answer, tag_of, contents_of, sized, answer_number, is_tag}
 use Rattle.uf2_tags.proofs.one_tag.Laws.{the_tag}
 use Rattle.uf2_tags.specs.Room.{first_place, kind_at, room_end, bad_payload, bad_place, tag_at}
 use Rattle.uf2_tags.proofs.room.Laws.{tag_here, room_end_lem, at_other, not_false}
@@ -87,10 +88,10 @@ past false a x n h e = (refl, e)
 sized_number : (size kind at end n : ℕ) → 0 < n → n < 60 → answer_number (sized size kind at end) ≡ n → ⊥
 unfolding sized
 sized_number size kind at end n low high e =
-    let p1 = past (eqb size 0 && eqb kind 0) End _ n (λ x. omega arith) e in
-    let p2 = past (leb 1 size && leb size 3) ShortTag _ n (λ x. omega arith) p1.1 in
-    let p3 = past (eqb size 0) TypedEnd _ n (λ x. omega arith) p2.1 in
-    let p4 = past (ltb end (at + size)) PastRoom _ n (λ x. omega arith) p3.1 in
+    let p1 = past (eqb size 0 && eqb kind 0) (Ok None) _ n (λ x. omega arith) e in
+    let p2 = past (leb 1 size && leb size 3) (Err ShortTag) _ n (λ x. omega arith) p1.1 in
+    let p3 = past (eqb size 0) (Err TypedEnd) _ n (λ x. omega arith) p2.1 in
+    let p4 = past (ltb end (at + size)) (Err PastRoom) _ n (λ x. omega arith) p3.1 in
     let zero_is : 0 ≡ n = p4.1 in
     omega arith
 
@@ -119,14 +120,14 @@ fine_no_3 : (b : List ℕ) (at : ℕ) → Fine b at → answer_number (tag_at b 
 unfolding tag_at bad_payload first_place
 fine_no_3 b at f e =
     let size = field_at b 16 in
-    let p1 = past (not (eqb (length b) 512)) BadLength _ 3 (λ x. omega arith) e in
-    let p2 = past (not (is_block b)) NotBlock _ 3 (λ x. omega arith) p1.1 in
-    let p3 = past (not (has_flag b 0x8000)) End _ 3 (λ x. omega arith) p2.1 in
-    let p4 = past (bad_payload size) BadPayload _ 3 (λ x. omega arith) p3.1 in
+    let p1 = past (not (eqb (length b) 512)) (Err BadLength) _ 3 (λ x. omega arith) e in
+    let p2 = past (not (is_block b)) (Err NotBlock) _ 3 (λ x. omega arith) p1.1 in
+    let p3 = past (not (has_flag b 0x8000)) (Ok None) _ 3 (λ x. omega arith) p2.1 in
+    let p4 = past (bad_payload size) (Err BadPayload) _ 3 (λ x. omega arith) p3.1 in
     let even : size % 4 ≡ 0 = eqb-true (size % 4) 0 (not_false _ (or_right (ltb 476 size) (not (eqb (size % 4) 0)) p4.0)) in
     let here : bad_place (first_place b) at ≡ false = place_fine (first_place b) at f.from (omega (arith, f.step)) in
-    let rest : answer_number (cond (ltb (room_end b) (at + 4)) NoRoom (sized (get_or b at 0) (kind_at b at) at (room_end b))) ≡ 3 = rw here at p4.1 in
-    let p6 = past (ltb (room_end b) (at + 4)) NoRoom _ 3 (λ x. omega arith) rest in
+    let rest : answer_number (cond (ltb (room_end b) (at + 4)) (Err NoRoom) (sized (get_or b at 0) (kind_at b at) at (room_end b))) ≡ 3 = rw here at p4.1 in
+    let p6 = past (ltb (room_end b) (at + 4)) (Err NoRoom) _ 3 (λ x. omega arith) rest in
     sized_number (get_or b at 0) (kind_at b at) at (room_end b) 3 (omega arith) (omega arith) p6.1
 
 pub never_3 : Never3
@@ -137,24 +138,24 @@ never_3 b n e =
 block_no_4 : (b : List ℕ) (at : ℕ) → is_block b ≡ true → answer_number (tag_at b at) ≡ 4 → ⊥
 unfolding tag_at
 block_no_4 b at y e =
-    let p1 = past (not (eqb (length b) 512)) BadLength _ 4 (λ x. omega arith) e in
-    let p2 : answer_number (cond (not (has_flag b 0x8000)) End (cond (bad_payload (field_at b 16)) BadPayload (cond (bad_place (first_place b) at) BadPlace (cond (ltb (room_end b) (at + 4)) NoRoom (sized (get_or b at 0) (kind_at b at) at (room_end b)))))) ≡ 4 = rw y at p1.1 in
-    let p3 = past (not (has_flag b 0x8000)) End _ 4 (λ x. omega arith) p2 in
-    let p4 = past (bad_payload (field_at b 16)) BadPayload _ 4 (λ x. omega arith) p3.1 in
-    let p5 = past (bad_place (first_place b) at) BadPlace _ 4 (λ x. omega arith) p4.1 in
-    let p6 = past (ltb (room_end b) (at + 4)) NoRoom _ 4 (λ x. omega arith) p5.1 in
+    let p1 = past (not (eqb (length b) 512)) (Err BadLength) _ 4 (λ x. omega arith) e in
+    let p2 : answer_number (cond (not (has_flag b 0x8000)) (Ok None) (cond (bad_payload (field_at b 16)) (Err BadPayload) (cond (bad_place (first_place b) at) (Err BadPlace) (cond (ltb (room_end b) (at + 4)) (Err NoRoom) (sized (get_or b at 0) (kind_at b at) at (room_end b)))))) ≡ 4 = rw y at p1.1 in
+    let p3 = past (not (has_flag b 0x8000)) (Ok None) _ 4 (λ x. omega arith) p2 in
+    let p4 = past (bad_payload (field_at b 16)) (Err BadPayload) _ 4 (λ x. omega arith) p3.1 in
+    let p5 = past (bad_place (first_place b) at) (Err BadPlace) _ 4 (λ x. omega arith) p4.1 in
+    let p6 = past (ltb (room_end b) (at + 4)) (Err NoRoom) _ 4 (λ x. omega arith) p5.1 in
     sized_number (get_or b at 0) (kind_at b at) at (room_end b) 4 (omega arith) (omega arith) p6.1
 
 pub four_is_row_4 : FourIsRow4
 four_is_row_4 b at h = (told, tells)
   where
-    by-block : {v : Bool} → is_block b ≡ v → header_of b ≡ cond v (flagged_of b) no_Header
-    by-block e = header_is_block b ∙ ap (λ (x : Bool). cond x (flagged_of b) no_Header) e
+    by-block : {v : Bool} → is_block b ≡ v → header_of b ≡ cond v (flagged_of b) (Err no_Header)
+    by-block e = header_is_block b ∙ ap (λ (x : Bool). cond x (flagged_of b) (Err no_Header)) e
 
-    told : tag_at b at ≡ NotBlock → header_of b ≡ no_Header
+    told : tag_at b at ≡ Err NotBlock → header_of b ≡ Err no_Header
     told e = split (is_block b) (λ y. absurd (block_no_4 b at y (ap answer_number e))) (λ n. by-block n)
 
-    tells : header_of b ≡ no_Header → tag_at b at ≡ NotBlock
+    tells : header_of b ≡ Err no_Header → tag_at b at ≡ Err NotBlock
     tells e = split (is_block b) (λ y. absurd (flagged_other b (sym (by-block y) ∙ e))) (λ n. sym (at_other b at h n))
 
 -- ---- the search

@@ -8,15 +8,14 @@ use lib.Dec.{eqb, ltb, leb}
 use lib.ListN.{length, get_or, take, drop, length-drop}
 use lib.Seq.{get_or-take, get_or-drop, ext_get_or, length-take-le, take-take, take_at}
 use borrow.Author.Tests.{leb-true, ltb-true, le-leb, lt-ltb, eqb-true}
+use Rattle.std.specs.Prelude.{Some}
 use Rattle.laws.specs.Sets.{Set, size, one}
 use Rattle.laws.proofs.Tests.{split, and_left, and_right, both, eqb_same}
 use Rattle.memory.specs.Many.{many}
 use Rattle.memory.specs.Flash.{payload_of, spans}
 use Rattle.uf2_block.specs.Block.{field_at, has_flag}
 use Rattle.partitions.specs.declared.Settings.{Settings}
-use Rattle.placement.specs.Place.{place_of}
-use Rattle.placement.specs.declared.Place.{Place}
-use Rattle.placement.specs.declared.Place.TheVariants.{At}
+use Rattle.placement.specs.Place.{place_of, place_from}
 use Rattle.transfer.specs.Transfer.{good_state}
 use Rattle.transfer.specs.declared.Kind.TheVariants.{Flash}
 use Rattle.transfer.specs.declared.State.TheVariants.{Idle}
@@ -82,7 +81,7 @@ module _ (s : Settings) (w : World) (image out : List ℕ) (family start at byte
       let whole = right.whole in
       let room = D.fits in
       let a = r.address_back in
-      let family-is : place_of s (length w.held.flash) (field_at (F.block k) 28) ≡ At at bytes = ap (place_of s (length w.held.flash)) r.family_back ∙ D.placed in
+      let family-is : place_of s (length w.held.flash) (field_at (F.block k) 28) ≡ Some (place_from at bytes) = ap (place_of s (length w.held.flash)) r.family_back ∙ D.placed in
       made_passes s w (F.block k) at bytes board r.long family-is
       (record {
         magic = r.magic;

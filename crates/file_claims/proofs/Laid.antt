@@ -12,7 +12,7 @@ use Rattle.laws.proofs.BytesLaws.{number_back, length_low}
 use Rattle.laws.proofs.Tests.{split}
 use Rattle.uf2_block.specs.Block.{field_at, has_flag}
 use Rattle.uf2_tags.specs.declared.one_tag.Tag.{Tag}
-use Rattle.uf2_tags.specs.declared.one_tag.Answer.TheVariants.{Tag as a-tag, End}
+use Rattle.std.specs.Prelude.{Ok, Some, None}
 use Rattle.uf2_tags.specs.Tag.{tag_of, contents_of, sized}
 use Rattle.uf2_tags.proofs.one_tag.Laws.{sized_end, sized_tag}
 use Rattle.uf2_tags.specs.Room.{first_place, kind_at, room_end, tag_at}
@@ -77,7 +77,7 @@ module _ (b : List ℕ) (pre rest : List ℕ) (i : Item) (e : b ≡ pre ++ (item
   abbrev tag : Tag
   tag = tag_of (4 + length i.bytes) i.kind (length pre)
 
-  tag_answer : tag_at b (length pre) ≡ a-tag tag
+  tag_answer : tag_at b (length pre) ≡ Ok (Some tag)
   tag_answer =
       let l = length_item pre rest i in
       let z : get_or b (length pre) 0 ≡ 4 + length i.bytes = ap (λ (x : List ℕ). get_or x (length pre) 0) e ∙ size_in pre rest i in
@@ -105,7 +105,7 @@ module _ (b : List ℕ) (pre rest : List ℕ) (i : Item) (e : b ≡ pre ++ (item
       }
 
 -- four zeros
-end_answer : (b : List ℕ) (pre rest : List ℕ) → b ≡ pre ++ (0 ∷ 0 ∷ 0 ∷ 0 ∷ rest) → Spot b (length pre) → length pre + 4 ≤ room_end b → tag_at b (length pre) ≡ End
+end_answer : (b : List ℕ) (pre rest : List ℕ) → b ≡ pre ++ (0 ∷ 0 ∷ 0 ∷ 0 ∷ rest) → Spot b (length pre) → length pre + 4 ≤ room_end b → tag_at b (length pre) ≡ Ok None
 unfolding kind_at low_first
 end_answer b pre rest e s h =
     let z : get_or b (length pre) 0 ≡ 0 = ap (λ (x : List ℕ). get_or x (length pre) 0) e ∙ get_or-append_seam pre 0 (0 ∷ 0 ∷ 0 ∷ rest) 0 in

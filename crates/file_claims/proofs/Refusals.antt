@@ -7,7 +7,6 @@ use mathlib.Core.List.{List}
 use lib.Dec.{eqb, ltb, leb}
 use lib.ListN.{length}
 use borrow.Author.Tests.{eq-eqb, ne_eqb, lt-ltb, le-ltb, le-leb, lt-leb}
-use Rattle.uf2_make.specs.declared.checks.MakeAnswer.{MakeAnswer}
 use Rattle.uf2_make.specs.Uf2check.{bad_image, bad_start, check_of, make_number}
 use Rattle.uf2_make.proofs.checks.Checks.{image_bad, start_bad, past, short, passes}
 use Rattle.uf2_make.specs.Uf2file.{make_of}

@@ -9,6 +9,7 @@ use lib.Dec.{eqb, ltb, leb}
 use lib.ListN.{length, get_or, take, drop, length-drop}
 use lib.Seq.{get_or-take, get_or-drop}
 use borrow.Author.Tests.{leb-true, leb-false, ltb-true, le-leb, lt-leb, lt-ltb, le-ltb, eq-eqb}
+use Rattle.std.specs.Prelude.{Option, Some}
 use Rattle.laws.specs.Sets.{any}
 use Rattle.laws.proofs.Laws.{any_hit, any_none}
 use Rattle.laws.proofs.Tests.{split, and_left, and_right, both}
@@ -19,9 +20,8 @@ use Rattle.md5_digest.specs.Md5.{md5_of}
 use Rattle.md5_digest.specs.declared.Digest.{Digest}
 use Rattle.uf2_block.proofs.regions.Laws.{Counting, good_yes}
 use Rattle.partitions.specs.declared.Settings.{Settings}
-use Rattle.placement.specs.Place.{place_of, Inside}
+use Rattle.placement.specs.Place.{place_of, Inside, place_from}
 use Rattle.placement.specs.declared.Place.{Place}
-use Rattle.placement.specs.declared.Place.TheVariants.{At}
 use Rattle.placement.proofs.Theorems.{place_inside}
 use Rattle.transfer.specs.Transfer.{good_state, number_of, count_of}
 use Rattle.transfer.specs.declared.Kind.{Kind}
@@ -105,7 +105,7 @@ module _ (s : Settings) (w : World) (image out : List ℕ) (family start at byte
       let whole = right.whole in
       let room = D.fits in
       let a = r.address_back in
-      let family-is : place_of s (length w.held.flash) (field_at (F.block k) 28) ≡ At at bytes = ap (place_of s (length w.held.flash)) r.family_back ∙ D.placed in
+      let family-is : place_of s (length w.held.flash) (field_at (F.block k) 28) ≡ Some (place_from at bytes) = ap (place_of s (length w.held.flash)) r.family_back ∙ D.placed in
       made_passes s w (F.block k) at bytes board r.long family-is
       (record {
         magic = r.magic;
@@ -163,7 +163,7 @@ module _ (s : Settings) (w : World) (image out : List ℕ) (family start at byte
   guarded : (k : ℕ) → k < n → is_guarded s w F k ≡ true
   guarded k h =
       both (both (both refl (page_data k h)) (names k h))
-      (ap (λ (p : Place). good_region (size_of p) (address_of F k) (region_of (F.block k))) D.placed
+      (ap (λ (p : Option Place). good_region (size_of p) (address_of F k) (region_of (F.block k))) D.placed
       ∙ good_yes bytes (address_of F k) (region_of (F.block k)) (counting k h))
 
   storage_is : (k : ℕ) → k < n → storage_of s w F k ≡ at + (start - 0x10000000) + 256 * k
@@ -172,7 +172,7 @@ module _ (s : Settings) (w : World) (image out : List ℕ) (family start at byte
       omega (arith, o, (reads k h).address_back, right.low)
 
   region_is : (k : ℕ) → region_start s w F k ≡ at + (field_at (F.block k) 484 - 0x10000000)
-  region_is k = ap (λ (p : Place). start_of p + (field_at (F.block k) 484 - 0x10000000)) D.placed
+  region_is k = ap (λ (p : Option Place). start_of p + (field_at (F.block k) 484 - 0x10000000)) D.placed
 
   -- byte j of the flash lies in the region of block i
   in_bounds : (i j : ℕ) → i < n → in_region s w F i j ≡ true

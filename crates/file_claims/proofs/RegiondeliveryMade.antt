@@ -7,20 +7,17 @@ use native.Mathlib.Omega.{arith}
 use lib.Dec.{eqb, ltb, leb}
 use lib.ListN.{length, take, drop}
 use borrow.Author.Tests.{leb-true, ltb-true, eq-eqb, ne_eqb, le-leb, lt-ltb, le-ltb, lt-leb}
+use Rattle.std.specs.Prelude.{Some, Ok}
 use Rattle.laws.proofs.Tests.{and_left, and_right, both}
 use Rattle.memory.specs.Flash.{payload_of, spans}
 use Rattle.uf2_block.specs.Block.{field_at, has_flag, fields_of, flagged_of, is_block, header_of}
-use Rattle.uf2_block.specs.declared.Header.TheVariants.{Found}
 use Rattle.partitions.specs.declared.Settings.{Settings}
-use Rattle.placement.specs.Place.{place_of}
-use Rattle.placement.specs.declared.Place.TheVariants.{At}
+use Rattle.placement.specs.Place.{place_of, place_from}
 use Rattle.transfer.specs.Transfer.{good_state}
 use Rattle.transfer.specs.declared.Kind.TheVariants.{Flash}
 use Rattle.transfer.specs.declared.State.TheVariants.{Idle}
 use Rattle.uf2_checks.specs.Screen.{window_of, bad_numbers, bad_address, placed, placed_at, data_found, found, screen_in, screen_of}
 use Rattle.uf2_checks.specs.declared.Body.TheVariants.{Page}
-use Rattle.uf2_checks.specs.declared.Window.TheVariants.{In}
-use Rattle.uf2_checks.specs.declared.Screening.TheVariants.{Passed}
 use Rattle.arrival.specs.Arrive.{World, lengths_of, right_lengths, after_screening, deed_of, receive_of}
 use Rattle.arrival.specs.Windows.{lies}
 use Rattle.demand.specs.Demand.{File, ValidFile, is_data, address_of, answer_number}
@@ -33,7 +30,7 @@ module _ (b : List ℕ) (magic : is_block b ≡ true) (flags : field_at b 8 ≡ 
   has : (f : ℕ) → has_flag b f ≡ eqb (0x6000 / f % 2) 1
   has f = rw flags
 
-  made_found : header_of b ≡ Found (fields_of b)
+  made_found : header_of b ≡ Ok (fields_of b)
   unfolding header_of flagged_of is_block
   made_found =
       let p = eqb (field_at b 0) 0x0A324655 in
@@ -55,8 +52,8 @@ pub record Fits (b : List ℕ) (size : ℕ) : Type 0 where
   pub below : field_at b 20 < field_at b 24
   pub room : field_at b 24 * 256 ≤ size
 
-module _ (s : Settings) (w : World) (b : List ℕ) (at size : ℕ) (B : Board s w) (long : length b ≡ 512) (place : place_of s (length w.held.flash) (field_at b 28) ≡ At at size) (I : Fits b size) where
-  window : window_of (lens w) (field_at b 12) ≡ In Flash
+module _ (s : Settings) (w : World) (b : List ℕ) (at size : ℕ) (B : Board s w) (long : length b ≡ 512) (place : place_of s (length w.held.flash) (field_at b 28) ≡ Some (place_from at size)) (I : Fits b size) where
+  window : window_of (lens w) (field_at b 12) ≡ Some Flash
   unfolding window_of
   window = rw (le-leb 0x10000000 (field_at b 12) I.low, lt-ltb (field_at b 12) 0x12000000 I.high)
 
@@ -81,7 +78,7 @@ module _ (s : Settings) (w : World) (b : List ℕ) (at size : ℕ) (B : Board s 
         le-ltb size (field_at b 12 - 0x10000000 + 256) I.ends,
       )
 
-  passed : screen_of s (lens w) w.transfer b ≡ Passed (placed_at Flash (Page (at + (field_at b 12 - 0x10000000))) (fields_of b))
+  passed : screen_of s (lens w) w.transfer b ≡ Ok (placed_at Flash (Page (at + (field_at b 12 - 0x10000000))) (fields_of b))
   unfolding screen_of screen_in found data_found placed fields_of
   passed = rw (made_found b I.magic I.flags, comment, window, place, I.payload, numbers, address)
 

@@ -1,7 +1,6 @@
 -- 000's example: "firmware version 0.1.2 for device named ACME Toaster mk3", after a payload of 256 bytes. Computed in proofs/Acme.antt. Assumes nothing.
-use Rattle.std.specs.Prelude.{ℕ, ◌≡◌, List, [], ◌∷◌, ◌++◌, replicate}
+use Rattle.std.specs.Prelude.{ℕ, ◌≡◌, List, [], ◌∷◌, ◌++◌, replicate, Ok, Some, None}
 use Rattle.uf2_tags.specs.declared.one_tag.Tag.{Tag}
-use Rattle.uf2_tags.specs.declared.one_tag.Answer.TheVariants.{Tag as a-tag, End}
 use Rattle.uf2_tags.specs.Tag.{contents_of}
 use Rattle.uf2_tags.specs.Room.{first_place, tag_at}
 use Rattle.uf2_tags.specs.Search.{find_of}
@@ -24,8 +23,8 @@ device = record { kind = 0x659d9d; start = 304; len = 16; next = 320 }
 
 unfoldable pub AcmeReads : Type 0
 AcmeReads =
-    (tag_at acme (first_place acme) ∷ tag_at acme 300 ∷ tag_at acme 320 ∷ [] ≡ a-tag version ∷ a-tag device ∷ End ∷ [])
-    × (find_of acme 0x9fc7bc ∷ find_of acme 0x659d9d ∷ find_of acme 0x650d9d ∷ [] ≡ a-tag version ∷ a-tag device ∷ End ∷ [])
+    (tag_at acme (first_place acme) ∷ tag_at acme 300 ∷ tag_at acme 320 ∷ [] ≡ Ok (Some version) ∷ Ok (Some device) ∷ Ok None ∷ [])
+    × (find_of acme 0x9fc7bc ∷ find_of acme 0x659d9d ∷ find_of acme 0x650d9d ∷ [] ≡ Ok (Some version) ∷ Ok (Some device) ∷ Ok None ∷ [])
     -- "0.1.2"
     × (contents_of acme version ≡ 0x30 ∷ 0x2e ∷ 0x31 ∷ 0x2e ∷ 0x32 ∷ [])
 

@@ -1,14 +1,13 @@
 -- The claims about the calls of a reader of extension tags (02, L4). proofs/ proves each, in lower case. Assumes nothing.
-use Rattle.std.specs.Prelude.{ℕ, zero, suc, ◌+◌, ◌%◌, ◌<◌, ◌≤◌, ◌≡◌, true, false, ◌⊎◌, List, length, get_or}
+use Rattle.std.specs.Prelude.{ℕ, zero, suc, ◌+◌, ◌%◌, ◌<◌, ◌≤◌, ◌≡◌, true, false, ◌⊎◌, List, length, get_or, Err, Ok, Some}
 use Rattle.std.specs.Borrow.{Bor}
 use Rattle.laws.specs.Bytes.{number_in}
 use Rattle.uf2_block.specs.Block.{field_at, has_flag, header_of}
-use Rattle.uf2_block.specs.declared.Header as header
+use Rattle.uf2_block.specs.declared.HeaderError as header
 use Rattle.uf2_tags.specs.declared.one_tag.Tag.{Tag}
 use Rattle.uf2_tags.specs.declared.Tags.{Tags}
-use Rattle.uf2_tags.specs.declared.one_tag.Answer.{Answer}
-use Rattle.uf2_tags.specs.declared.one_tag.Answer.TheVariants.{Tag as a-tag, BadPlace, NotBlock}
-use Rattle.uf2_tags.specs.Tag.{contents_of, is_tag}
+use Rattle.uf2_tags.specs.declared.one_tag.TagError.TheVariants.{BadPlace, NotBlock}
+use Rattle.uf2_tags.specs.Tag.{Answer, contents_of, is_tag}
 use Rattle.uf2_tags.specs.Room.{tag_at}
 use Rattle.uf2_tags.specs.Reader.{started, stepped}
 use Rattle.uf2_tags.specs.Search.{find_of}
@@ -43,11 +42,11 @@ pub record Lies (b : List ℕ) (at : ℕ) (t : Tag) : Type 0 where
   pub next : (t.start + t.len ≤ t.next) × (t.next < t.start + t.len + 4) × (t.next % 4 ≡ 0)
 
 abbrev pub TagLies : Type 0
-TagLies = (r : Tags) (t : Tag) → answer_of r ≡ a-tag t → Lies r.block.now r.at t
+TagLies = (r : Tags) (t : Tag) → answer_of r ≡ Ok (Some t) → Lies r.block.now r.at t
 
 -- a fresh reader never comes to a wrong place: 3 is for places that are handed in
 abbrev pub Never3 : Type 0
-Never3 = (b : Bor (List ℕ)) (n : ℕ) → answer_of (after n (started b)) ≡ BadPlace → ⊥
+Never3 = (b : Bor (List ℕ)) (n : ℕ) → answer_of (after n (started b)) ≡ Err BadPlace → ⊥
 
 -- every block comes to an end or a refusal: the room has 476 bytes, and a tag takes 4 of them
 abbrev pub EndsBy : Type 0
@@ -55,17 +54,17 @@ EndsBy = (b : Bor (List ℕ)) (n : ℕ) → 119 ≤ n → is_tag (answer_of (aft
 
 -- "not a block 4" is row 4 of the receiver
 abbrev pub FourIsRow4 : Type 0
-FourIsRow4 = (b : List ℕ) (at : ℕ) → length b ≡ 512 → (tag_at b at ≡ NotBlock → header_of b ≡ header.TheVariants.NotBlock) × (header_of b ≡ header.TheVariants.NotBlock → tag_at b at ≡ NotBlock)
+FourIsRow4 = (b : List ℕ) (at : ℕ) → length b ≡ 512 → (tag_at b at ≡ Err NotBlock → header_of b ≡ Err header.TheVariants.NotBlock) × (header_of b ≡ Err header.TheVariants.NotBlock → tag_at b at ≡ Err NotBlock)
 
 -- of an answer: it is a tag of another type
 pub record Other (kind : ℕ) (a : Answer) : Type 0 where
   pub tag : Tag
-  pub same : a ≡ a-tag tag
+  pub same : a ≡ Ok (Some tag)
   pub kinds : tag.kind ≡ kind → ⊥
 
 -- of an answer: it is a tag of the type, or the end or a refusal
 abbrev pub Stopping : ℕ → Answer → Type 0
-Stopping kind a = (is_tag a ≡ false) ⊎ ((t : Tag) × (a ≡ a-tag t) × (t.kind ≡ kind))
+Stopping kind a = (is_tag a ≡ false) ⊎ ((t : Tag) × (a ≡ Ok (Some t)) × (t.kind ≡ kind))
 
 -- `find` answers what the first call of a fresh reader answers that is no tag of another type
 pub record FirstOf (b : Bor (List ℕ)) (kind : ℕ) (a : Answer) : Type 0 where

@@ -1,16 +1,14 @@
 -- "Delivered in any order, .. the pages stand at their storage addresses and the transfer is Done" (02, L1). Proved in proofs/. Assumes nothing.
-use Rattle.std.specs.Prelude.{ℕ, ◌+◌, ◌-◌, ◌*◌, ◌/◌, ◌<◌, ◌≤◌, ◌^◌, ◌≡◌, Bool, true, false, ◌||◌, List, [], ◌∷◌, map, eqb, length, take, drop}
+use Rattle.std.specs.Prelude.{ℕ, ◌+◌, ◌-◌, ◌*◌, ◌/◌, ◌<◌, ◌≤◌, ◌^◌, ◌≡◌, Bool, true, false, ◌||◌, List, [], ◌∷◌, map, eqb, length, take, drop, Some, Ok}
 use Rattle.partitions.specs.Settings.{good_settings}
 use Rattle.partitions.specs.declared.Settings.{Settings}
-use Rattle.placement.specs.Place.{place_of}
-use Rattle.placement.specs.declared.Place.TheVariants.{At}
+use Rattle.placement.specs.Place.{place_of, place_from}
 use Rattle.transfer.specs.declared.Kind.TheVariants.{Flash}
 use Rattle.transfer.specs.declared.State.TheVariants.{Idle, Done}
 use Rattle.arrival.specs.Arrive.{World, right_lengths, lengths_of}
 use Rattle.arrival.specs.Lists.{receive_all}
 use Rattle.demand.specs.Demand.{File, ValidFile, Sent, seen_of, head_in}
 use Rattle.uf2_make.specs.Uf2file.{make_of}
-use Rattle.uf2_make.specs.declared.checks.MakeAnswer.TheVariants.{Made}
 
 -- the file that a call of the maker wrote: as many blocks as there are pages, block k the bytes from 512 x k on of the output as it is left
 abbrev pub made_file : List ℕ → ℕ → ℕ → List ℕ → File
@@ -24,7 +22,7 @@ made_file image family start out =
 
 -- the maker's answer to a call
 abbrev pub IsMade : List ℕ → ℕ → ℕ → List ℕ → Type 0
-IsMade image family start out = (make_of image family start out).answer ≡ Made (length image / 256)
+IsMade image family start out = (make_of image family start out).answer ≡ Ok (length image / 256)
 
 -- "from Idle, with good settings and buffer lengths, where the range's end less 0x10000000 is within the length of the family's place", which is the
 -- flash from `at` on, `size` bytes
@@ -33,7 +31,7 @@ pub record Deliverable (s : Settings) (w : World) (image : List ℕ) (family sta
   pub lengths : right_lengths 512 (lengths_of w.held) (length w.seen) (length w.held.sectors) ≡ true
   pub good : good_settings s (length w.held.flash) ≡ true
   pub narrow : family < 2 ^ 32
-  pub placed : place_of s (length w.held.flash) family ≡ At at size
+  pub placed : place_of s (length w.held.flash) family ≡ Some (place_from at size)
   pub fits : start + length image - 0x10000000 ≤ size
 
 -- what holds of every file that is made and can be delivered

@@ -1,11 +1,10 @@
 -- Tags laid out as 000 says are answered in their order, then the end. Assumes nothing.
-use Rattle.std.specs.Prelude.{ℕ, ◌+◌, ◌%◌, ◌<◌, ◌≤◌, ◌≡◌, true, List, [], ◌∷◌, ◌++◌, length}
+use Rattle.std.specs.Prelude.{ℕ, ◌+◌, ◌%◌, ◌<◌, ◌≤◌, ◌≡◌, true, List, [], ◌∷◌, ◌++◌, length, Ok, Some, None}
 use Rattle.std.specs.Borrow.{Bor}
 use Rattle.laws.specs.Bytes.{low_first}
 use Rattle.uf2_block.specs.Block.{field_at, has_flag, is_block}
 use Rattle.uf2_tags.specs.declared.one_tag.Tag.{Tag}
 use Rattle.uf2_tags.specs.declared.Tags.{Tags}
-use Rattle.uf2_tags.specs.declared.one_tag.Answer.TheVariants.{Tag as a-tag, End}
 use Rattle.uf2_tags.specs.Tag.{contents_of}
 use Rattle.uf2_tags.specs.Reader.{started, stepped}
 use Rattle.file_claims.specs.Calls.{answer_of}
@@ -54,13 +53,13 @@ pub record Holds (b : List ℕ) (is : List Item) : Type 0 where
 -- the next call answers a tag of this type with these contents
 pub record Tells (r : Tags) (i : Item) : Type 0 where
   pub tag : Tag
-  pub answer : answer_of r ≡ a-tag tag
+  pub answer : answer_of r ≡ Ok (Some tag)
   pub kind : tag.kind ≡ i.kind
   pub contents : contents_of r.block.now tag ≡ i.bytes
 
 -- call after call: each tag in its order, then the end
 unfoldable pub Reads : Tags → List Item → Type 0
-Reads r [] = answer_of r ≡ End
+Reads r [] = answer_of r ≡ Ok None
 Reads r (i ∷ is) = Tells r i × Reads (stepped r).reader is
 
 abbrev pub TagsReadBack : Type 0

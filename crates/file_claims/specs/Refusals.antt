@@ -1,7 +1,6 @@
 -- "Refusals, in order: 50 image empty or ragged, 51 start outside the window or no multiple of 256, 52 image runs past the window, 53 output under 512 bytes a
 -- page." (02, L1), in numbers. Proved in proofs/Refusals.antt. Assumes nothing.
-use Rattle.std.specs.Prelude.{ℕ, ◌+◌, ◌*◌, ◌/◌, ◌%◌, ◌<◌, ◌≤◌, ◌≡◌, ◌≢◌, ◌⊎◌, List, length}
-use Rattle.uf2_make.specs.declared.checks.MakeAnswer.TheVariants.{Made}
+use Rattle.std.specs.Prelude.{ℕ, ◌+◌, ◌*◌, ◌/◌, ◌%◌, ◌<◌, ◌≤◌, ◌≡◌, ◌≢◌, ◌⊎◌, List, length, Ok}
 use Rattle.uf2_make.specs.Uf2check.{make_number}
 use Rattle.uf2_make.specs.Uf2file.{make_of}
 
@@ -27,4 +26,4 @@ MakeRefuses =
 unfoldable pub ElseMade : Type 0
 ElseMade =
     (image out : List ℕ) (family start : ℕ) → Whole (length image) → Started start → start + length image ≤ 0x12000000
-    → 512 * (length image / 256) ≤ length out → (make_of image family start out).answer ≡ Made (length image / 256)
+    → 512 * (length image / 256) ≤ length out → (make_of image family start out).answer ≡ Ok (length image / 256)

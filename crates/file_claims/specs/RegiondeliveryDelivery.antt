@@ -1,6 +1,6 @@
 -- A file that is made with a region for each sector, delivered (02, L1 and L9): it is one of which demand 3 for files with regions speaks, and over
 -- a flash that holds its pages every block of it stands. Proved in proofs/. Assumes nothing.
-use Rattle.std.specs.Prelude.{ℕ, ◌*◌, ◌/◌, ◌<◌, ◌≤◌, ◌≡◌, true, List, [], ◌∷◌, map, ◌⊎◌, length, take, drop}
+use Rattle.std.specs.Prelude.{ℕ, ◌*◌, ◌/◌, ◌<◌, ◌≤◌, ◌≡◌, true, List, [], ◌∷◌, map, ◌⊎◌, length, take, drop, Ok}
 use Rattle.partitions.specs.declared.Settings.{Settings}
 use Rattle.transfer.specs.Transfer.{number_of}
 use Rattle.transfer.specs.declared.Answer.{Answer}
@@ -13,7 +13,6 @@ use Rattle.arrival_claims.specs.Comments.{Unstored}
 use Rattle.demand.specs.Demand.{File, ValidFile, is_guarded, seen_of, Contents}
 use Rattle.demand.specs.Regions.{Regions, Complete, Final, region_in}
 use Rattle.file_claims.specs.Delivery.{Deliverable}
-use Rattle.uf2_make.specs.declared.checks.MakeAnswer.TheVariants.{Made}
 use Rattle.uf2_make_regions.specs.File.{make_of}
 
 -- the file that a call of the maker wrote: block k is the bytes from 512 x k on of the output as it is left
@@ -27,7 +26,7 @@ made_file image family start out =
     }
 
 abbrev pub IsMade : List ℕ → ℕ → ℕ → List ℕ → Type 0
-IsMade image family start out = (make_of image family start out).answer ≡ Made (length image / 256)
+IsMade image family start out = (make_of image family start out).answer ≡ Ok (length image / 256)
 
 -- what holds of every file that is made and can be delivered
 abbrev pub EveryMade : (Settings → World → File → Type 0) → Type 0

@@ -9,11 +9,9 @@ fn all_digits(table: &[u8; 256], chars: &[u8]) -> bool
     ensures { result ≡ all_by (value_in table.now) chars.now }
 {
     let mut met: u8 = 0;
-    let mut i = 0;
-    while i < chars.len() {
+    for i in 0..chars.len() {
         let value = table[chars[i] as usize];
         met = met | value;
-        i += 1;
     }
     met < 16
 }
@@ -23,7 +21,7 @@ fn decode(table: &[u8; 256], chars: &[u8], out: &mut [u8]) -> bool
     ensures value { result ≡ all_by (value_in table.now) chars.now }
     ensures bytes { out.new ≡ decoded_by (value_in table.now) chars.now out.old }
 {
-    let e = 2 * crate::pairs::least(chars.len() / 2, out.len());
+    let e = 2 * (chars.len() / 2).min(out.len());
     let good = crate::pairs::pairs(table, chars, out);
     good & all_digits(table, &chars[e..])
 }
@@ -32,15 +30,13 @@ fn decode(table: &[u8; 256], chars: &[u8], out: &mut [u8]) -> bool
 fn first_bad(table: &[u8; 256], chars: &[u8]) -> usize
     ensures { result ≡ first_by (value_in table.now) chars.now }
 {
-    let mut i = 0;
-    while i < chars.len() {
+    for i in 0..chars.len() {
         let value = table[chars[i] as usize];
         if 16 <= value {
             return i;
         }
-        i += 1;
     }
-    i
+    chars.len()
 }
 
 // The index of the first character that is no digit, or how many there are; the bytes that the characters say go to `out` as far as it

@@ -17,18 +17,18 @@ const IMAGE: usize = 262144;
 
 const WAITING: usize = 65536;
 
-// The board that the first argument names, or V1 where there is none. 0 is no board.
-fn own_board(rt: &impl Env) -> u16 {
+// The board that the first argument names, or V1 where there is none.
+fn own_board(rt: &impl Env) -> Option<u16> {
     let mut name = [0u8; 2];
     let n = match rt.arg(1, &mut name) {
         Ok(n) => n,
-        Err(FillError::NotPresent) => return Boards::V1,
-        Err(FillError::TooLong) => return 0,
+        Err(FillError::NotPresent) => return Some(Boards::V1),
+        Err(FillError::TooLong) => return None,
     };
     match &name[..n] {
-        b"V1" => Boards::V1,
-        b"V2" => Boards::V2,
-        _ => 0,
+        b"V1" => Some(Boards::V1),
+        b"V2" => Some(Boards::V2),
+        _ => None,
     }
 }
 
@@ -65,6 +65,7 @@ fn add(
 }
 
 // Answers every line of the input. A line is handed with its ending.
+// Kept, no plainer: a step is one line, which may have any length.
 fn run(
     rt: &impl Print,
     input: &[u8],
@@ -91,6 +92,7 @@ fn run(
     Ok(reader)
 }
 
+// Kept, no plainer: receive has one of this shape for a transfer; one for both would take the line and its length as parameters.
 fn print_state(rt: &impl Print, reader: Reader) -> io::Result<()> {
     let mut text = [0u8; 128];
     let n = text::hex_state::hex_state_line(&mut text, reader);
@@ -124,10 +126,9 @@ fn with_arrays(
 }
 
 fn main(rt: HostRuntime) -> io::Result<()> {
-    let own = own_board(&rt);
-    if own == 0 {
+    let Some(own) = own_board(&rt) else {
         return rt.write_all(b"board is V1 or V2\n");
-    }
+    };
     // the whole input at once, so that every line is handed as it is, however long
     let mut input = [0u8; INPUT];
     let mut image = [0xFFu8; IMAGE];

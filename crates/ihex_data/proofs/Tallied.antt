@@ -2,34 +2,38 @@
 use mathlib.Core.Path.{◌≡◌, refl, sym, ap, ◌∙◌}
 use mathlib.Core.Bool.{Bool, true, false, cond}
 use mathlib.Core.List.{List, [], ◌∷◌, ◌++◌, flatten, append-nil, append_assoc}
-use Prim.Native.Nat.{ℕ, ◌+◌, ◌-◌, ◌*◌, ◌/◌, ◌%◌, ◌≤◌, ◌<◌}
+use Prim.Native.Nat.{ℕ, ◌+◌, ◌-◌, ◌/◌, ◌%◌, ◌≤◌, ◌<◌}
 use native.Mathlib.Omega.{arith}
+use Rattle.std.specs.Prelude.{Option, Some, None, is_some as has}
 use lib.Dec.{eqb, ltb}
 use lib.ListN.{length, take, drop, length-append, length-take, length-drop}
 use lib.Seq.{take_all}
 use borrow.Author.Tests.{lt-ltb, le-ltb, ltb-true, ltb-false}
-use Rattle.laws.proofs.Tests.{split, eqb_same}
+use Rattle.laws.proofs.Tests.{split, clash, eqb_same}
 use Rattle.laws.specs.Stores.{Store}
 use Rattle.ihex_record.specs.Write.{record_line}
 use Rattle.ihex_write.specs.Put.{put_line, put_lines}
 use Rattle.ihex_write.proofs.Line.{length_line}
 use Rattle.ihex_write.proofs.Lines.{put_one, put_two, put_append, length_flatten}
 use Rattle.ihex_file.specs.File.{is_some}
+use Rattle.ihex_data.specs.declared.cuts.Uppers.{Uppers}
 use Rattle.ihex_data.specs.declared.cuts.Tally.{Tally}
 use Rattle.ihex_data.specs.Pieces.{piece, room_of, crosses, split_of, split_all}
-use Rattle.ihex_data.specs.Lines.{upper_of, upper_line, upper_if, body_lines, first_upper}
-use Rattle.ihex_data.specs.Tally.{tally, fresh_tally, changes, tally_piece, tally_all, piece_lines, pieces_lines}
+use Rattle.ihex_data.specs.Lines.{word_bytes, upper_of, upper_line, upper_if, body_lines, first_upper}
+use Rattle.ihex_data.specs.Tally.{uppers, fresh_tally, first_of, changes, tally_piece, tally_all, piece_lines, pieces_lines}
+
+-- a number's two low bytes
+pub low_word : (two : List ℕ) (w : ℕ) → two ≡ w % 65536 / 256 % 256 ∷ w % 65536 % 256 ∷ [] → two ≡ word_bytes w
+low_word two w e =
+    let high : w % 65536 / 256 % 256 ≡ w / 256 % 256 = omega arith in
+    let low : w % 65536 % 256 ≡ w % 256 = omega arith in
+    rw (e, high, low) refl
 
 -- ---- one piece
 
 pub at_most : (b : Bool) {k : ℕ} → k ≡ cond b 16 0 → k ≤ 16
 at_most true e = omega arith
 at_most false e = omega arith
-
-pub piece_kept : (t : Tally) (u n : ℕ) {first more : ℕ} {b : Bool} → first ≡ cond t.some t.first u → b ≡ changes t u → more ≡ cond b 16 0
-    → tally true first u (t.len + (more + (12 + 2 * n))) ≡ tally_piece t u n
-unfolding tally_piece
-piece_kept t u n e f g = rw (e, g, f)
 
 pub length_upper : (u : ℕ) → length (upper_line u) ≡ 16
 length_upper u = length_line _ _ _
@@ -176,22 +180,26 @@ split_append (x ∷ xs) ys =
 
 -- ---- what is kept of them all
 
-tally_some : (t : Tally) (ss : List Store) → t.some ≡ true → (tally_all t ss).some ≡ true
+tally_some : (t : Tally) (ss : List Store) → has t.uppers ≡ true → has (tally_all t ss).uppers ≡ true
 unfolding tally_all tally_piece
 tally_some t [] e = e
 tally_some t (s ∷ ss) e = tally_some (after t s) ss refl
 
-pub fresh_some : (ss : List Store) → (tally_all fresh_tally ss).some ≡ is_some ss
+pub fresh_some : (ss : List Store) → has (tally_all fresh_tally ss).uppers ≡ is_some ss
 unfolding tally_all tally_piece
 fresh_some [] = refl
 fresh_some (s ∷ ss) = tally_some (after fresh_tally s) ss refl
 
-tally_first : (t : Tally) (ss : List Store) → t.some ≡ true → (tally_all t ss).first ≡ t.first
+first_same : (o : Option Uppers) (u v : ℕ) → has o ≡ true → first_of o u ≡ first_of o v
+first_same None u v e = clash false e refl
+first_same (Some x) u v e = refl
+
+tally_first : (t : Tally) (ss : List Store) → has t.uppers ≡ true → first_of (tally_all t ss).uppers 0 ≡ first_of t.uppers 0
 unfolding tally_all tally_piece
 tally_first t [] e = refl
-tally_first t (s ∷ ss) e = tally_first (after t s) ss refl ∙ rw e refl
+tally_first t (s ∷ ss) e = tally_first (after t s) ss refl ∙ first_same t.uppers (upper_of s) 0 e
 
-pub fresh_first : (ss : List Store) → (tally_all fresh_tally ss).first ≡ first_upper ss
+pub fresh_first : (ss : List Store) → first_of (tally_all fresh_tally ss).uppers 0 ≡ first_upper ss
 unfolding tally_all tally_piece
 fresh_first [] = refl
 fresh_first (s ∷ ss) = tally_first (after fresh_tally s) ss refl
@@ -204,25 +212,21 @@ split_some (s ∷ ss) =
     split (ltb (room_of s.address) (length s.bytes)) (λ y. rw y refl) (λ n. rw n refl)
 
 -- the lines after an 04 that holds u
-after_some : (t : Tally) (s : Store) → (after t s).some ≡ true
+after_uppers : (t : Tally) (s : Store) → (after t s).uppers ≡ Some (uppers (first_of t.uppers (upper_of s)) (upper_of s))
 unfolding tally_piece
-after_some t s = refl
+after_uppers t s = refl
 
-after_upper : (t : Tally) (s : Store) → (after t s).upper ≡ upper_of s
-unfolding tally_piece
-after_upper t s = refl
-
-first_lines : (kind u : ℕ) (t : Tally) (s : Store) (ls : List (List ℕ)) → t.some ≡ true → t.upper ≡ u
+first_lines : (kind f u : ℕ) (t : Tally) (s : Store) (ls : List (List ℕ)) → t.uppers ≡ Some (uppers f u)
     → lines_one kind t s ++ ls ≡ upper_if u (upper_of s) (record_line kind (s.address % 65536) s.bytes ∷ ls)
 unfolding piece_lines
-first_lines kind u t s ls e f = split (eqb u (upper_of s)) (λ y. rw (e, f, y)) (λ n. rw (e, f, n))
+first_lines kind f u t s ls e = split (eqb u (upper_of s)) (λ y. rw (e, y)) (λ n. rw (e, n))
 
-body_lines_lem : (kind u : ℕ) (t : Tally) (ss : List Store) → t.some ≡ true → t.upper ≡ u → pieces_lines kind t ss ≡ body_lines kind u ss
+body_lines_lem : (kind f u : ℕ) (t : Tally) (ss : List Store) → t.uppers ≡ Some (uppers f u) → pieces_lines kind t ss ≡ body_lines kind u ss
 unfolding pieces_lines body_lines
-body_lines_lem kind u t [] e f = refl
-body_lines_lem kind u t (s ∷ ss) e f =
-    ap (λ (l : List (List ℕ)). lines_one kind t s ++ l) (body_lines_lem kind (upper_of s) (after t s) ss (after_some t s) (after_upper t s))
-    ∙ first_lines kind u t s (body_lines kind (upper_of s) ss) e f
+body_lines_lem kind f u t [] e = refl
+body_lines_lem kind f u t (s ∷ ss) e =
+    ap (λ (l : List (List ℕ)). lines_one kind t s ++ l) (body_lines_lem kind (first_of t.uppers (upper_of s)) (upper_of s) (after t s) ss (after_uppers t s))
+    ∙ first_lines kind f u t s (body_lines kind (upper_of s) ss) e
 
 fresh_line : (kind : ℕ) (s : Store) (ls : List (List ℕ))
     → lines_one kind fresh_tally s ++ ls ≡ upper_if (upper_of s) (upper_of s) (record_line kind (s.address % 65536) s.bytes ∷ ls)
@@ -233,5 +237,5 @@ pub fresh_lines : (kind : ℕ) (ss : List Store) → pieces_lines kind fresh_tal
 unfolding pieces_lines body_lines
 fresh_lines kind [] = refl
 fresh_lines kind (s ∷ ss) =
-    ap (λ (l : List (List ℕ)). lines_one kind fresh_tally s ++ l) (body_lines_lem kind (upper_of s) (after fresh_tally s) ss (after_some fresh_tally s) (after_upper fresh_tally s))
+    ap (λ (l : List (List ℕ)). lines_one kind fresh_tally s ++ l) (body_lines_lem kind (upper_of s) (upper_of s) (after fresh_tally s) ss (after_uppers fresh_tally s))
     ∙ fresh_line kind s (body_lines kind (upper_of s) ss)

@@ -1,10 +1,11 @@
 -- A plain file line by line: what holds before each line, and at the end of the file. Assumes nothing.
 use mathlib.Core.Path.{◌≡◌, refl, sym, ap, ◌∙◌}
-use mathlib.Core.Bool.{true, false, cond}
+use mathlib.Core.Bool.{true, false}
 use mathlib.Core.List.{List, [], ◌∷◌, ◌++◌}
-use Prim.Native.Nat.{ℕ, suc, ◌+◌, ◌-◌, ◌*◌, ◌≤◌, ◌<◌}
+use Prim.Native.Nat.{ℕ, suc, min, ◌+◌, ◌-◌, ◌*◌, ◌≤◌, ◌<◌}
 use native.Mathlib.Numerals.{add-one}
 use native.Mathlib.Omega.{arith}
+use Rattle.std.specs.Prelude.{Result, Ok, Err, is_some as has}
 use lib.Dec.{ltb}
 use lib.ListN.{length, take, drop, length-take, length-drop, drop_of_length-le}
 use borrow.Author.Tests.{ltb-true, ltb-false}
@@ -16,21 +17,15 @@ use Rattle.uhex_grammar.specs.declared.Answer.{Answer}
 use Rattle.ihex_write.specs.Put.{put_lines}
 use Rattle.ihex_write.proofs.Lines.{put_none, put_past}
 use Rattle.ihex_file.specs.declared.Plain.{Plain}
-use Rattle.ihex_file.specs.declared.LineReading.{LineReading}
-use Rattle.ihex_file.specs.declared.LineReading.TheVariants.{Refused, Passed, Data}
-use Rattle.ihex_file.specs.declared.Verdict.{Verdict}
-use Rattle.ihex_file.specs.declared.Verdict.TheVariants.{Bad}
-use Rattle.ihex_file.specs.Line.{fresh_plain, taken_of}
-use Rattle.ihex_file.specs.File.{goes_on, next_of, bad_of, gives_of, records_from, records_of, lines_verdict, is_some, verdict_of, close_of}
+use Rattle.ihex_file.specs.Line.{Reading, fresh_plain, taken_of}
+use Rattle.ihex_file.specs.File.{Verdict, bad, goes_on, next_of, bad_of, gives_of, records_from, records_of, lines_verdict, is_some, verdict_of, close_of}
 use Rattle.ihex_file.proofs.Moves.{taken_moves}
 use Rattle.ihex_data.specs.declared.cuts.Tally.{Tally}
 use Rattle.ihex_data.specs.declared.Scan.{Scan}
 use Rattle.ihex_data.specs.declared.Body.{Body}
-use Rattle.ihex_data.specs.declared.Step.{Step}
-use Rattle.ihex_data.specs.declared.Step.TheVariants.{On, Stop}
 use Rattle.ihex_data.specs.Pieces.{split_all, pieces_of}
-use Rattle.ihex_data.specs.Tally.{fresh_tally, tally_all, pieces_lines}
-use Rattle.ihex_data.specs.Scan.{scan, line_pieces, step_of, stop_of, body_of, Walk}
+use Rattle.ihex_data.specs.Tally.{fresh_tally, first_of, tally_all, pieces_lines}
+use Rattle.ihex_data.specs.Scan.{scan, line_pieces, step_of, body_of, Walk}
 use Rattle.ihex_data.proofs.Tallied.{tally_append, put_more, split_append, fresh_some, fresh_first, fresh_lines, split_some}
 use Rattle.ihex_data.proofs.Length.{kept_length}
 use Rattle.ihex_data.proofs.Stepped.{line_most}
@@ -42,7 +37,7 @@ pub record Goes (w : Scan) (l : List ℕ) (v : Scan) : Type 0 where
   pub on : goes_on (taken_of w.plain l) ≡ true
   pub next : v ≡ scan (next_of w.plain (taken_of w.plain l)) (tally_all w.tally (line_pieces w.plain l))
 
-step_on : (w : Scan) (l : List ℕ) (v : Scan) → step_of w l ≡ On v → Goes w l v
+step_on : (w : Scan) (l : List ℕ) (v : Scan) → step_of w l ≡ Ok v → Goes w l v
 unfolding step_of
 step_on w l v e =
     split (goes_on (taken_of w.plain l))
@@ -54,7 +49,7 @@ pub record Stops (w : Scan) (l : List ℕ) (a : Answer) : Type 0 where
   pub off : goes_on (taken_of w.plain l) ≡ false
   pub bad : a ≡ bad_of (taken_of w.plain l)
 
-step_stop : (w : Scan) (l : List ℕ) (a : Answer) → step_of w l ≡ Stop a → Stops w l a
+step_stop : (w : Scan) (l : List ℕ) (a : Answer) → step_of w l ≡ Err a → Stops w l a
 unfolding step_of
 step_stop w l a e =
     split (goes_on (taken_of w.plain l))
@@ -80,7 +75,7 @@ verdict_on : (p : Plain) (k : ℕ) (l : List ℕ) (ls : List (List ℕ)) → goe
 unfolding lines_verdict
 verdict_on p k l ls e = rw e refl
 
-verdict_off : (p : Plain) (k : ℕ) (l : List ℕ) (ls : List (List ℕ)) → goes_on (taken_of p l) ≡ false → lines_verdict p k (l ∷ ls) ≡ Bad k (bad_of (taken_of p l))
+verdict_off : (p : Plain) (k : ℕ) (l : List ℕ) (ls : List (List ℕ)) → goes_on (taken_of p l) ≡ false → lines_verdict p k (l ∷ ls) ≡ bad k (bad_of (taken_of p l))
 unfolding lines_verdict
 verdict_off p k l ls e = rw e refl
 
@@ -92,11 +87,10 @@ no_line : (l : List ℕ) → l ≡ [] → lines_of l ≡ []
 unfolding lines_of
 no_line l e = rw e refl
 
-no_pieces : (p : Plain) (l : List ℕ) (x : LineReading) → taken_of p l ≡ x → goes_on x ≡ false → line_pieces p l ≡ []
+no_pieces : (p : Plain) (l : List ℕ) (x : Reading) → taken_of p l ≡ x → goes_on x ≡ false → line_pieces p l ≡ []
 unfolding line_pieces split_all
-no_pieces p l (Refused a) e n = rw e refl
-no_pieces p l (Passed q) e n = clash true refl n
-no_pieces p l (Data q a k) e n = clash true refl n
+no_pieces p l (Err a) e n = rw e refl
+no_pieces p l (Ok t) e n = clash true refl n
 
 -- where no piece is left, all are kept and written
 no_more : (t : Tally) {ss : List Store} {r : Tally} → tally_all t ss ≡ r → ss ≡ [] → t ≡ r
@@ -110,7 +104,7 @@ no_lines o at kind t n e = sym (put_none o at) ∙ rw n at e
 -- ---- a whole file, by what was kept of it
 
 abbrev body : Verdict → Tally → Body
-body v t = record { verdict = v; first = t.first; len = t.len }
+body v t = record { verdict = v; first = first_of t.uppers 0; len = t.len }
 
 walked : (out : List ℕ) (at kind : ℕ) (s : List ℕ) (v : Verdict) (t : Tally) {o : List ℕ} → v ≡ verdict_of s → t ≡ tally_all fresh_tally (pieces_of s) → t.len ≤ 1000000000
     → o ≡ put_lines out at (pieces_lines kind fresh_tally (pieces_of s)) → Walk out at kind s (body v t) o
@@ -172,7 +166,7 @@ module _ (out : List ℕ) (at kind : ℕ) (s : List ℕ) {o : List ℕ} {w : Sca
     length_line : length (line e) ≡ e - i
     length_line = omega (arith, length-take (e - i) (drop i s), length-drop i s, longer, within_text)
 
-    pub going_next : {v : Scan} {q : List ℕ} {step : Step} → step ≡ step_of w (line e) → step ≡ On v → q ≡ put e → length q ≡ length o
+    pub going_next : {v : Scan} {q : List ℕ} {step : Result Scan Answer} → step ≡ step_of w (line e) → step ≡ Ok v → q ≡ put e → length q ≡ length o
         → Going out at kind s q v (k + 1) e
     going_next {v} {q} {step} a b p n =
         let l = line e in
@@ -198,47 +192,45 @@ module _ (out : List ℕ) (at kind : ℕ) (s : List ℕ) {o : List ℕ} {w : Sca
     off-pieces : (l : List ℕ) → goes_on (taken_of w.plain l) ≡ false → line_pieces w.plain l ≡ []
     off-pieces l h = no_pieces w.plain l (taken_of w.plain l) refl h
 
-    pub going_stop : {a : Answer} {q : List ℕ} {step : Step} {b : Answer} → step ≡ step_of w (line e) → step ≡ Stop a → q ≡ put e → b ≡ stop_of step
-        → Walk out at kind s (body (Bad k b) w.tally) q
+    pub going_stop : {a : Answer} {q : List ℕ} {step : Result Scan Answer} → step ≡ step_of w (line e) → step ≡ Err a → q ≡ put e
+        → Walk out at kind s (body (bad k a) w.tally) q
     unfolding verdict_of
-    going_stop {a} {q} {step} {b} x y p z =
+    going_stop {a} {q} {step} x y p =
         let l = line e in
         let h = step_stop w l a (sym x ∙ y) in
         let ls = lines_of (drop e s) in
         let rest = left_off w.plain l ls h.off in
-        let same : b ≡ bad_of (taken_of w.plain l) = z ∙ rw y h.bad in
-        let first : lines_verdict fresh_plain 0 (lines_of s) ≡ Bad k b =
-        sym g.verdict ∙ ap (lines_verdict w.plain k) cut ∙ verdict_off w.plain k l ls h.off ∙ ap (Bad k) (sym same) in
-        walked out at kind s (Bad k b) w.tally (rw first refl)
+        let first : lines_verdict fresh_plain 0 (lines_of s) ≡ bad k a =
+        sym g.verdict ∙ ap (lines_verdict w.plain k) cut ∙ verdict_off w.plain k l ls h.off ∙ ap (bad k) (sym h.bad) in
+        walked out at kind s (bad k a) w.tally (rw first refl)
         (no_more w.tally g.tally (ap (left w.plain) cut ∙ rest))
         (omega (arith, g.most, g.offset))
         (p ∙ sym (no_lines o (at + w.tally.len) kind w.tally (off-pieces l h.off) refl) ∙ no_lines o (at + w.tally.len) kind w.tally (ap (left w.plain) cut ∙ rest) g.lines)
 
   -- ---- at the end of the text
 
-  pub going_last : {v : Verdict} → length s ≤ i → v ≡ close_of w.plain k w.tally.some → Walk out at kind s (body v w.tally) o
+  pub going_last : {v : Verdict} → length s ≤ i → v ≡ close_of w.plain k (has w.tally.uppers) → Walk out at kind s (body v w.tally) o
   unfolding verdict_of close_of pieces_of
   going_last {v} past e =
       let none : lines_of (drop i s) ≡ [] = no_line (drop i s) (drop_of_length-le s past) in
       let empty : left w.plain (lines_of (drop i s)) ≡ [] = rw none (none_left w.plain) in
       let t : w.tally ≡ tally_all fresh_tally (pieces_of s) = no_more w.tally g.tally empty in
-      let some : w.tally.some ≡ is_some (records_of s) = rw t (fresh_some (pieces_of s) ∙ split_some (records_of s)) in
+      let some : has w.tally.uppers ≡ is_some (records_of s) = rw t (fresh_some (pieces_of s) ∙ split_some (records_of s)) in
       let n : k ≡ length (lines_of s) = omega (arith, ap length none, g.count) in
       walked out at kind s v w.tally (e ∙ rw (← g.verdict, none, some, ← n) refl) t (omega (arith, g.most, g.offset))
       (no_lines o (at + w.tally.len) kind w.tally empty g.lines)
 
 -- ---- a place past the end of the room is as good as the end
 
-abbrev clamped : ℕ → ℕ → ℕ
-clamped n at = cond (ltb n at) n at
-
-pub clamped_most : (n at : ℕ) {from : ℕ} → from ≡ clamped n at → n * 1 < 9223372036854775808 → from ≤ 9223372036854775807
-clamped_most n at e h =
-    split (ltb n at) (λ y. rw (e, y) (omega arith)) (λ k. rw (e, k) (omega (arith, ltb-false n at k)))
-
-pub clamped_lines : (out : List ℕ) (at : ℕ) (ls : List (List ℕ)) {from : ℕ} {o : List ℕ} → from ≡ clamped (length out) at → o ≡ put_lines out from ls → o ≡ put_lines out at ls
-clamped_lines out at ls e f =
+pub least_lines : (out : List ℕ) (at : ℕ) (ls : List (List ℕ)) {from : ℕ} {o : List ℕ} → from ≡ min at (length out) → o ≡ put_lines out from ls → o ≡ put_lines out at ls
+least_lines out at ls {from} e f =
     f
     ∙ split (ltb (length out) at)
-    (λ y. rw (e, y) (put_past out (length out) ls (omega arith) ∙ sym (put_past out at ls (omega (arith, ltb-true (length out) at y)))))
-    (λ n. rw (e, n) refl)
+    (λ y.
+    let past : length out < at = ltb-true (length out) at y in
+    let last : from ≡ length out = omega (arith, e) in
+    rw last (put_past out (length out) ls (omega arith) ∙ sym (put_past out at ls (omega arith))))
+    (λ n.
+    let within : at ≤ length out = ltb-false (length out) at n in
+    let same : from ≡ at = omega (arith, e) in
+    rw same refl)

@@ -1,16 +1,13 @@
 -- What the code keeps while it reads a plain file, line by line. Assumes nothing.
-use Rattle.std.specs.Prelude.{ℕ, ◌≤◌, ◌≡◌, cond, List}
+use Rattle.std.specs.Prelude.{ℕ, ◌≤◌, ◌≡◌, cond, List, Result, Ok, Err}
 use Rattle.laws.specs.Stores.{Store}
 use Rattle.uhex_grammar.specs.declared.Answer.{Answer}
-use Rattle.uhex_grammar.specs.declared.Answer.TheVariants.{OutOfPlace}
 use Rattle.ihex_write.specs.Put.{put_lines}
 use Rattle.ihex_file.specs.declared.Plain.{Plain}
 use Rattle.ihex_file.specs.Line.{taken_of}
 use Rattle.ihex_file.specs.File.{goes_on, next_of, bad_of, gives_of, verdict_of}
 use Rattle.ihex_data.specs.declared.cuts.Tally.{Tally}
 use Rattle.ihex_data.specs.declared.Scan.{Scan}
-use Rattle.ihex_data.specs.declared.Step.{Step}
-use Rattle.ihex_data.specs.declared.Step.TheVariants.{On, Stop}
 use Rattle.ihex_data.specs.declared.Body.{Body}
 use Rattle.ihex_data.specs.Pieces.{split_all, pieces_of}
 use Rattle.ihex_data.specs.Lines.{first_upper, data_lines, data_length}
@@ -25,15 +22,10 @@ unfoldable pub line_pieces : Plain → List ℕ → List Store
 line_pieces p l = split_all (gives_of l (taken_of p l))
 
 -- a line
-unfoldable pub step_of : Scan → List ℕ → Step
+unfoldable pub step_of : Scan → List ℕ → Result Scan Answer
 step_of s l =
-    cond (goes_on (taken_of s.plain l)) (On (scan (next_of s.plain (taken_of s.plain l)) (tally_all s.tally (line_pieces s.plain l))))
-    (Stop (bad_of (taken_of s.plain l)))
-
--- the answer of a line that is refused; of another nothing asks for it
-abbrev pub stop_of : Step → Answer
-stop_of (On s) = OutOfPlace
-stop_of (Stop a) = a
+    cond (goes_on (taken_of s.plain l)) (Ok (scan (next_of s.plain (taken_of s.plain l)) (tally_all s.tally (line_pieces s.plain l))))
+    (Err (bad_of (taken_of s.plain l)))
 
 -- what a whole file comes to
 unfoldable pub body_of : List ℕ → Body

@@ -1,17 +1,17 @@
 -- What the code keeps of the pieces written so far, and the lines of a piece by it. The lines of all pieces of a file are `data_lines`
 -- (proofs/Tallied.antt). Assumes nothing.
-use Rattle.std.specs.Prelude.{ℕ, ◌+◌, ◌*◌, ◌%◌, true, cond, List, [], ◌∷◌, ◌++◌, length}
+use Rattle.std.specs.Prelude.{ℕ, ◌+◌, ◌*◌, ◌%◌, cond, List, [], ◌∷◌, ◌++◌, length, Some}
 use Rattle.laws.specs.Stores.{Store}
 use Rattle.ihex_record.specs.Write.{record_line}
 use Rattle.ihex_data.specs.declared.cuts.Tally.{Tally}
 use Rattle.ihex_data.specs.Lines.{upper_of, upper_line}
 -- what is kept, before the first piece, and where an 04 stands
-pub use Rattle.ihex_data.specs.Cuts.{tally, fresh_tally, changes}
+pub use Rattle.ihex_data.specs.Cuts.{tally, uppers, fresh_tally, first_of, changes}
 
 -- one more piece, of n bytes with the upper half u
 unfoldable pub tally_piece : Tally → ℕ → ℕ → Tally
 tally_piece t u n =
-    tally true (cond t.some t.first u) u (t.len + (cond (changes t u) 16 0 + (12 + 2 * n)))
+    tally (Some (uppers (first_of t.uppers u) u)) (t.len + (cond (changes t u) 16 0 + (12 + 2 * n)))
 
 -- pieces
 unfoldable pub tally_all : Tally → List Store → Tally

@@ -1,17 +1,21 @@
 // Where the data of a plain Intel Hex file is cut: between records with another upper half of the address, which an 04 tells, and in a record.
 ghost use Rattle.std.specs.Prelude.{◌≡◌};
-ghost use Rattle.ihex_data.specs.Cuts.{fresh_tally, changes, crosses};
+ghost use Rattle.ihex_data.specs.Cuts.{fresh_tally, changes, first_of, crosses};
 
 // the addresses that one 04 reaches
 const REACH: usize = 65536;
 
-// What is known of the pieces so far: whether there is one, the upper half of the first and of the latest, and how many characters their lines
-// have.
+// The upper halves of the first piece's address and of the latest's.
+#[derive(Clone, Copy)]
+pub struct Uppers {
+    pub first: usize,
+    pub latest: usize,
+}
+
+// What is known of the pieces so far: the upper halves, where there is a piece, and how many characters their lines have.
 #[derive(Clone, Copy)]
 pub struct Tally {
-    pub some: bool,
-    pub first: usize,
-    pub upper: usize,
+    pub uppers: Option<Uppers>,
     pub len: usize,
 }
 
@@ -20,9 +24,7 @@ impl Tally {
         ensures { result ≡ fresh_tally }
     {
         Tally {
-            some: false,
-            first: 0,
-            upper: 0,
+            uppers: None,
             len: 0,
         }
     }
@@ -31,7 +33,20 @@ impl Tally {
     pub fn changes(self, upper: usize) -> bool
         ensures { result ≡ changes self upper }
     {
-        self.some & !(self.upper == upper)
+        match self.uppers {
+            Some(uppers) => uppers.latest != upper,
+            None => false,
+        }
+    }
+
+    // The upper half of the first piece's address, or another where there is no piece.
+    pub(crate) fn first_or(self, other: usize) -> usize
+        ensures { result ≡ first_of self.uppers other }
+    {
+        match self.uppers {
+            Some(uppers) => uppers.first,
+            None => other,
+        }
     }
 }
 

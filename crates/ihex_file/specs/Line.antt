@@ -1,14 +1,13 @@
 -- One line of a plain Intel Hex file (02, L11): "Read plain Intel Hex (types 00 to 05)". Assumes nothing.
-use Rattle.std.specs.Prelude.{ℕ, ◌+◌, ◌*◌, Bool, true, false, cond, ◌&&◌, ◌||◌, List, eqb, ltb, length}
+use Rattle.std.specs.Prelude.{ℕ, ◌+◌, ◌*◌, Bool, true, false, cond, ◌&&◌, ◌||◌, List, eqb, ltb, length, Some, None, Result, Ok, Err}
 use Rattle.ihex_record.specs.Types.{data_type, end_of_file, extended_linear}
-use Rattle.ihex_record.specs.Record.{word_of, on_record, read_of}
+use Rattle.ihex_record.specs.Record.{ParseResult, word_of, on_record, read_of}
 use Rattle.ihex_record.specs.declared.Record.{Record}
-use Rattle.ihex_record.specs.declared.ParseResult.{ParseResult}
 use Rattle.uhex_grammar.specs.Answers.{number_of, refusal_of}
+use Rattle.uhex_grammar.specs.declared.Answer.{Answer}
 use Rattle.uhex_grammar.specs.declared.Answer.TheVariants.{OutOfPlace, Crosses, AfterEnd, FileTooLong}
 use Rattle.ihex_file.specs.declared.Plain.{Plain}
-use Rattle.ihex_file.specs.declared.LineReading.{LineReading}
-use Rattle.ihex_file.specs.declared.LineReading.TheVariants.{Refused, Passed, Data}
+use Rattle.ihex_file.specs.declared.Taken.{Taken}
 
 -- ---- the types that only plain Intel Hex has, and how many data bytes each record has: "02 carries 2 bytes, 03 and 05 four"; 01: "04
 -- carries 2 bytes, 01 none"
@@ -53,41 +52,52 @@ with_end p = plain p.offset p.base true
 
 -- ---- a record
 
+-- what a line comes to: refused, by its answer, or taken
+abbrev pub Reading : Type 0
+Reading = Result Taken Answer
+
+-- with no data byte
+abbrev pub passed : Plain → Reading
+passed q = Ok (record { plain = q; given = None })
+
+-- with n bytes of data at a linear address
+abbrev pub gives : Plain → ℕ → ℕ → Reading
+gives q a n = Ok (record { plain = q; given = Some (record { address = a; len = n }) })
+
 -- a 00, by its address field and its length: row 29, "address field + length over 65,536"; an empty one gives nothing; other data is at the
 -- latest 02's or 04's address, plus the address field
-unfoldable pub data_taken : Plain → ℕ → ℕ → LineReading
+unfoldable pub data_taken : Plain → ℕ → ℕ → Reading
 data_taken p address len =
-    cond (ltb 65536 (address + len)) (Refused Crosses) (cond (eqb len 0) (Passed p) (Data p (p.base + address) len))
+    cond (ltb 65536 (address + len)) (Err Crosses) (cond (eqb len 0) (passed p) (gives p (p.base + address) len))
 
 -- a record, by its type, address field and length, and its first two data bytes as a number, high first: an 02's times 16, an 04's times
 -- 65,536; "start records dropped"; row 26 for "type, length"
-unfoldable pub record_taken : Plain → ℕ → ℕ → ℕ → ℕ → LineReading
+unfoldable pub record_taken : Plain → ℕ → ℕ → ℕ → ℕ → Reading
 record_taken p kind address len word =
     cond (eqb kind data_type) (data_taken p address len)
-    (cond (is_end kind len) (Passed (with_end p))
-    (cond (is_segment kind len) (Passed (with_base p (16 * word)))
-    (cond (is_linear kind len) (Passed (with_base p (65536 * word)))
-    (cond (is_start kind len) (Passed p) (Refused OutOfPlace)))))
+    (cond (is_end kind len) (passed (with_end p))
+    (cond (is_segment kind len) (passed (with_base p (16 * word)))
+    (cond (is_linear kind len) (passed (with_base p (65536 * word)))
+    (cond (is_start kind len) (passed p) (Err OutOfPlace)))))
 
 -- the same, of a record that a line says
-abbrev pub fields_taken : Plain → ℕ → Record → LineReading
+abbrev pub fields_taken : Plain → ℕ → Record → Reading
 fields_taken p word rec = record_taken p rec.kind rec.address rec.len word
 
 -- ---- a line: "at the first bad line 31, 36, 20 to 26 .. or 29"
 
 -- 01's number of a refusal; a line that is taken has none, and 0 stands for it
-abbrev pub taken_number : LineReading → ℕ
-taken_number (Refused a) = number_of a
-taken_number (Passed p) = 0
-taken_number (Data p a n) = 0
+abbrev pub taken_number : Reading → ℕ
+taken_number (Err a) = number_of a
+taken_number (Ok t) = 0
 
 -- of n bytes, by what its text says
-unfoldable pub line_taken : Plain → ℕ → ParseResult → ℕ → LineReading
+unfoldable pub line_taken : Plain → ℕ → ParseResult → ℕ → Reading
 line_taken p n parsed word =
-    cond p.ended (Refused AfterEnd)
-    (cond (ltb 4194304 (p.offset + n)) (Refused FileTooLong)
-    (on_record (Refused (refusal_of parsed)) (fields_taken (moved_by p n) word) parsed))
+    cond p.ended (Err AfterEnd)
+    (cond (ltb 4194304 (p.offset + n)) (Err FileTooLong)
+    (on_record (Err (refusal_of parsed)) (fields_taken (moved_by p n) word) parsed))
 
 -- as it is handed, its ending included
-unfoldable pub taken_of : Plain → List ℕ → LineReading
+unfoldable pub taken_of : Plain → List ℕ → Reading
 taken_of p l = line_taken p (length l) (read_of l).parsed (word_of (read_of l).«data»)

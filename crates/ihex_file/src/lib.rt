@@ -22,19 +22,25 @@ pub struct Plain {
     pub ended: bool,
 }
 
-// What a line of a plain file is: refused; a record with no data byte; or data, at a linear address, and how many bytes.
+// Data at a linear address: how many bytes of its line's.
 #[derive(Clone, Copy)]
-pub enum LineReading {
-    Refused(Answer),
-    Passed(Plain),
-    Data(Plain, usize, u8),
+pub struct Data {
+    pub address: usize,
+    pub len: u8,
 }
 
-// Whether a plain file is fine, or at which line, by its index from 0, it is refused, and with which answer.
+// What a line of a plain file is that is not refused: where the reading stands after it, and the data that it gives.
 #[derive(Clone, Copy)]
-pub enum Verdict {
-    Fine,
-    Bad(u32, Answer),
+pub struct Taken {
+    pub plain: Plain,
+    pub given: Option<Data>,
+}
+
+// Why a plain file is refused: a line, by its index from 0, and its answer.
+#[derive(Clone, Copy)]
+pub struct BadLine {
+    pub line: u32,
+    pub answer: Answer,
 }
 
 impl Plain {
@@ -54,30 +60,38 @@ impl Plain {
         }
     }
 
-    pub fn with_base(mut self, base: u32) -> Plain
+    pub fn with_base(self, base: u32) -> Plain
         ensures { result ≡ with_base self base }
     {
-        self.base = base;
-        self
+        Plain { base, ..self }
     }
 
-    pub fn with_end(mut self) -> Plain
+    pub fn with_end(self) -> Plain
         ensures { result ≡ with_end self }
     {
-        self.ended = true;
-        self
+        Plain {
+            ended: true,
+            ..self
+        }
     }
 
     // At the end of a file of so many lines, which gave some data byte or none.
-    pub fn close(self, lines: u32, some: bool) -> Verdict
+    #[tactic(auto, unfolding(crate::specs::File::close_of, crate::specs::File::lines_verdict))]
+    pub fn close(self, lines: u32, some: bool) -> Result<(), BadLine>
         ensures { numbered verdict_number result ≡ numbered verdict_number (close_of self lines some) }
     {
         if self.ended {
             if some {
-                return Verdict::Fine;
+                return Ok(());
             }
-            return Verdict::Bad(lines, Answer::MissingBoard);
+            return Err(BadLine {
+                line: lines,
+                answer: Answer::MissingBoard,
+            });
         }
-        Verdict::Bad(lines, Answer::OutOfPlace)
+        Err(BadLine {
+            line: lines,
+            answer: Answer::OutOfPlace,
+        })
     }
 }

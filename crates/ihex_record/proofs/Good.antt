@@ -1,18 +1,19 @@
 -- What holds of a line that is a good record. Assumes nothing.
 use Rattle.std.proofs.Common.{◌≡◌, ℕ, zero, suc, ◌+◌, ◌*◌, ◌%◌, ◌<◌, ◌≤◌, Bool, true, false, cond, not, ltb, List, [], ◌∷◌, length, take, drop, refl, ap, arith, length-drop, length-take, ltb-false, ltb-true, eqb-true}
+use Rattle.std.specs.Prelude.{Ok, Err}
 use borrow.Author.Tests.{not-false}
 use Rattle.laws.proofs.Tests.{and_left, and_right}
 use Rattle.ihex_record.specs.declared.Line.{Line}
 use Rattle.ihex_record.specs.declared.Record.{Record}
-use Rattle.ihex_record.specs.declared.ParseResult.{ParseResult}
-use Rattle.ihex_record.specs.declared.ParseResult.TheVariants.{Good, NoColon, BadShape, BadDigit, TooLong, BadLength, BadSum}
-use Rattle.ihex_record.specs.Record.{text_of, digit_of, is_digit, all_digits, first_bad, bytes_of, len_of, data_of, record_of, total, no_colon, bad_shape, bad_length, bad_sum, good, refused, line_of_bytes, line_of_text, read_of, parsed_number, all_by, bytes_by}
+use Rattle.ihex_record.specs.declared.LineError.{LineError}
+use Rattle.ihex_record.specs.declared.LineError.TheVariants.{NoColon, BadShape, BadDigit, TooLong, BadLength, BadSum}
+use Rattle.ihex_record.specs.Record.{ParseResult, text_of, digit_of, is_digit, all_digits, first_bad, bytes_of, len_of, data_of, record_of, total, no_colon, bad_shape, bad_length, bad_sum, good, refused, line_of_bytes, line_of_text, read_of, error_number, parsed_number, all_by, bytes_by}
 use Rattle.ihex_record.specs.Write.{Bytes}
 use Rattle.hex_digits.proofs.Digits.{length_bytes}
 use Rattle.ihex_record.proofs.Data32.{length_data32, data32_take}
 
 -- a row that a good line has passed
-passed : (b : Bool) (p : ParseResult) (x : Line) (r : Record) → 0 < parsed_number p → (cond b (refused p) x).parsed ≡ Good r → (b ≡ false) × (x.parsed ≡ Good r)
+passed : (b : Bool) (p : LineError) (x : Line) (r : Record) → 0 < error_number p → (cond b (refused (Err p)) x).parsed ≡ Ok r → (b ≡ false) × (x.parsed ≡ Ok r)
 passed true p x r h e = absurd (omega (arith, ap parsed_number e))
 passed false p x r h e = (refl, e)
 
@@ -25,7 +26,7 @@ pub record Says (t : List ℕ) (r : Record) : Type 0 where
   pub fields : r ≡ record_of (bytes_of (drop 1 t))
   pub whole : line_of_text t ≡ good (bytes_of (drop 1 t))
 
-pub says : (t : List ℕ) (r : Record) → (line_of_text t).parsed ≡ Good r → Says t r
+pub says : (t : List ℕ) (r : Record) → (line_of_text t).parsed ≡ Ok r → Says t r
 unfolding line_of_text line_of_bytes
 says t r e =
     let b = bytes_of (drop 1 t) in
@@ -35,7 +36,7 @@ says t r e =
     let f = passed (ltb 32 (len_of b)) TooLong _ r (omega arith) d.1 in
     let n = passed (bad_length (length t) b) BadLength _ r (omega arith) f.1 in
     let z = passed (bad_sum b) BadSum _ r (omega arith) n.1 in
-    let g : Good (record_of b) ≡ Good r = z.1 in
+    let g : ◌≡◌ {A = ParseResult} (Ok (record_of b)) (Ok r) = z.1 in
     record {
       digits = not-false _ d.0;
       fits = ltb-false 32 (len_of b) f.0;
@@ -45,7 +46,7 @@ says t r e =
       whole = rw (k.0, s.0, d.0, f.0, n.0, z.0);
     }
 
-module _ (l : List ℕ) (r : Record) (e : (read_of l).parsed ≡ Good r) where
+module _ (l : List ℕ) (r : Record) (e : (read_of l).parsed ≡ Ok r) where
   said : Says (text_of l) r
   unfolding read_of
   said = says (text_of l) r e
@@ -86,12 +87,12 @@ length_data l =
     let t = text_of l in
     let b = bytes_of (drop 1 t) in
     let z = length_data32 [] in
-    either (no_colon t) (refused NoColon) _ z
-    (either (bad_shape (length t)) (refused BadShape) _ z
-    (either (not (all_digits (drop 1 t))) (refused (BadDigit (1 + first_bad (drop 1 t)))) _ z
-    (either (ltb 32 (len_of b)) (refused TooLong) _ z
-    (either (bad_length (length t) b) (refused BadLength) _ z
-    (either (bad_sum b) (refused BadSum) (good b) z (length_data32 (data_of b)))))))
+    either (no_colon t) (refused (Err NoColon)) _ z
+    (either (bad_shape (length t)) (refused (Err BadShape)) _ z
+    (either (not (all_digits (drop 1 t))) (refused (Err (BadDigit (1 + first_bad (drop 1 t))))) _ z
+    (either (ltb 32 (len_of b)) (refused (Err TooLong)) _ z
+    (either (bad_length (length t) b) (refused (Err BadLength)) _ z
+    (either (bad_sum b) (refused (Err BadSum)) (good b) z (length_data32 (data_of b)))))))
 
 -- what two digits say is a byte
 pub bytes_small : (l : List ℕ) → all_digits l ≡ true → Bytes (bytes_of l)

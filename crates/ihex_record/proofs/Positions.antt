@@ -1,16 +1,17 @@
 -- The position of a bad digit: within 1 to 520, the first that is none. Assumes nothing.
 use Rattle.std.proofs.Common.{◌≡◌, ℕ, ◌+◌, ◌-◌, ◌<◌, ◌≤◌, Bool, true, false, cond, ltb, List, length, get_or, drop, sym, refl, ap, ◌∙◌, arith, length-drop, get_or-drop, ltb-false, ltb-true}
+use Rattle.std.specs.Prelude.{Err}
 use Rattle.laws.proofs.Tests.{split, clash}
 use Rattle.ihex_record.specs.declared.Line.{Line}
-use Rattle.ihex_record.specs.declared.ParseResult.{ParseResult}
-use Rattle.ihex_record.specs.declared.ParseResult.TheVariants.{NoColon, BadShape, BadDigit}
-use Rattle.ihex_record.specs.Record.{text_of, is_digit, all_digits, first_bad, bytes_of, len_of, no_colon, bad_shape, bad_length, bad_sum, refused, line_of_bytes, line_of_text, read_of, parsed_number}
+use Rattle.ihex_record.specs.declared.LineError.{LineError}
+use Rattle.ihex_record.specs.declared.LineError.TheVariants.{NoColon, BadShape, BadDigit}
+use Rattle.ihex_record.specs.Record.{ParseResult, text_of, is_digit, all_digits, first_bad, bytes_of, len_of, no_colon, bad_shape, bad_length, bad_sum, refused, line_of_bytes, line_of_text, read_of, error_number, parsed_number}
 use Rattle.ihex_record.proofs.Checks.{shaped}
 use Rattle.hex_digits.proofs.FirstBad.{bad_all, bad_is, bad_first}
 
 -- a row that a line with this number has passed
-other_row : (b : Bool) (q : ParseResult) (x : Line) (p : ℕ) → (parsed_number q ≡ 22 → ⊥) → (cond b (refused q) x).parsed ≡ BadDigit p
-    → (b ≡ false) × (x.parsed ≡ BadDigit p)
+other_row : (b : Bool) (q : LineError) (x : Line) (p : ℕ) → (error_number q ≡ 22 → ⊥) → (cond b (refused (Err q)) x).parsed ≡ Err (BadDigit p)
+    → (b ≡ false) × (x.parsed ≡ Err (BadDigit p))
 other_row true q x p h e = absurd (h (ap parsed_number e))
 other_row false q x p h e = (refl, e)
 
@@ -33,20 +34,20 @@ pub record BadAt (t : List ℕ) (p : ℕ) : Type 0 where
   pub some : all_digits (drop 1 t) ≡ false
   pub place : p ≡ 1 + first_bad (drop 1 t)
 
-pub bad_at : (t : List ℕ) (p : ℕ) → (line_of_text t).parsed ≡ BadDigit p → BadAt t p
+pub bad_at : (t : List ℕ) (p : ℕ) → (line_of_text t).parsed ≡ Err (BadDigit p) → BadAt t p
 unfolding line_of_text
 bad_at t p e =
     let k = other_row (no_colon t) NoColon _ p (λ q. omega arith) e in
     let s = other_row (bad_shape (length t)) BadShape _ p (λ q. omega arith) k.1 in
     split (all_digits (drop 1 t))
     (λ y.
-    let f : (line_of_bytes (length t) (bytes_of (drop 1 t))).parsed ≡ BadDigit p = rw y at s.1 in
+    let f : (line_of_bytes (length t) (bytes_of (drop 1 t))).parsed ≡ Err (BadDigit p) = rw y at s.1 in
     absurd (no_digits (length t) (bytes_of (drop 1 t)) (ap parsed_number f)))
     (λ z.
-    let f : BadDigit (1 + first_bad (drop 1 t)) ≡ BadDigit p = rw z at s.1 in
+    let f : ◌≡◌ {A = ParseResult} (Err (BadDigit (1 + first_bad (drop 1 t)))) (Err (BadDigit p)) = rw z at s.1 in
     record { shape = s.0; some = z; place = cc })
 
-module _ (l : List ℕ) (p : ℕ) (e : (read_of l).parsed ≡ BadDigit p) where
+module _ (l : List ℕ) (p : ℕ) (e : (read_of l).parsed ≡ Err (BadDigit p)) where
   abbrev text : List ℕ
   text = text_of l
 

@@ -6,7 +6,7 @@ use borrow.Author.Tests.{not-false}
 use Rattle.laws.specs.Sets.{Set, any}
 use Rattle.laws.proofs.Laws.{any_all}
 use Rattle.laws.proofs.Tests.{split, both}
-use Rattle.ihex_record.specs.declared.ParseResult.TheVariants.{Good}
+use Rattle.std.specs.Prelude.{Ok}
 use Rattle.ihex_record.specs.Record.{text_len, text_of, digit_of, all_digits, bytes_of, data32, total, bad_shape, line_of_bytes, line_of_text, read_of, all_by, bytes_by}
 use Rattle.ihex_record.specs.Write.{digit_text, bytes_text, field_bytes, checksum, record_text, Ending, none, lf, crlf, Bytes, ReadsBack}
 use Rattle.ihex_record.proofs.Endings.{text_whole, text_lf, text_crlf}
@@ -120,7 +120,7 @@ module _ (kind address : ℕ) (d : List ℕ) (hk : kind < 256) (ha : address < 6
       let e : length (record_text kind address d) - 1 ≡ suc (9 + 2 * length d) = omega (arith, length_record) in
       rw e (text_high whole (9 + 2 * length d) (omega (arith, long)))
 
-  text_back : line_of_text (record_text kind address d) ≡ record { parsed = Good (record { kind = kind; address = address; len = length d }); «data» = data32 d }
+  text_back : line_of_text (record_text kind address d) ≡ record { parsed = Ok (record { kind = kind; address = address; len = length d }); «data» = data32 d }
   unfolding record_text
   text_back =
       let t : List ℕ = 58 ∷ bytes_text whole in

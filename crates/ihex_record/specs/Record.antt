@@ -1,12 +1,12 @@
 -- One line of Intel Hex, by the bytes of its text (01, "Universal Hex, a line at a time", rows 20 to 25). Assumes nothing.
-use Rattle.std.specs.Prelude.{ℕ, ◌+◌, ◌-◌, ◌*◌, ◌%◌, Bool, cond, not, ◌&&◌, ◌||◌, List, [], ◌∷◌, length, take, drop, ◌==◌, nat_lt, slice_index}
+use Rattle.std.specs.Prelude.{ℕ, ◌+◌, ◌-◌, ◌*◌, ◌%◌, Bool, cond, not, ◌&&◌, ◌||◌, List, [], ◌∷◌, length, take, drop, ◌==◌, nat_lt, slice_index, Result, Ok, Err}
 use Rattle.laws.specs.Tab.{tab}
 pub use Rattle.hex_digits.specs.Digits.{is_digit, all_digits, first_bad, bytes_of}
 unfoldable pub use Rattle.hex_digits.specs.Digits.{digit_of, all_by, first_by, bytes_by}
 use Rattle.ihex_record.specs.declared.Record.{Record}
-use Rattle.ihex_record.specs.declared.ParseResult.{ParseResult}
+use Rattle.ihex_record.specs.declared.LineError.{LineError}
 use Rattle.ihex_record.specs.declared.Line.{Line}
-use Rattle.ihex_record.specs.declared.ParseResult.TheVariants.{Good, NoColon, BadShape, BadDigit, TooLong, BadLength, BadSum}
+use Rattle.ihex_record.specs.declared.LineError.TheVariants.{NoColon, BadShape, BadDigit, TooLong, BadLength, BadSum}
 
 -- ---- "one LF, then one CR before it, is dropped"
 
@@ -51,9 +51,13 @@ word_of d = word_from (slice_index d 0) (slice_index d 1)
 abbrev pub record_of : List ℕ → Record
 record_of b = record { kind = slice_index b 3; address = word_from (slice_index b 1) (slice_index b 2); len = len_of b }
 
+-- a record, or the first check that a line fails
+abbrev pub ParseResult : Type 0
+ParseResult = Result Record LineError
+
 -- a good record with its data, and a refusal, which has none
 abbrev pub good : List ℕ → Line
-good b = record { parsed = Good (record_of b); «data» = data32 (data_of b) }
+good b = record { parsed = Ok (record_of b); «data» = data32 (data_of b) }
 
 -- of a line that says no record
 abbrev pub refused : ParseResult → Line
@@ -61,13 +65,8 @@ refused p = record { parsed = p; «data» = data32 [] }
 
 -- what f makes of the record that a line says, and d where it says none
 abbrev pub on_record : {A : Type 0} → A → (Record → A) → ParseResult → A
-on_record d f (Good rec) = f rec
-on_record d f NoColon = d
-on_record d f BadShape = d
-on_record d f (BadDigit p) = d
-on_record d f TooLong = d
-on_record d f BadLength = d
-on_record d f BadSum = d
+on_record d f (Ok rec) = f rec
+on_record d f (Err e) = d
 
 -- the sum of bytes; row 25 keeps it to eight bits, which is its remainder by 256
 unfoldable pub total : List ℕ → ℕ
@@ -95,41 +94,45 @@ bad_sum b = not (total b % 256 == 0)
 -- rows 23 to 25, of n characters that say the bytes b; row 23: "the length field is over 32"
 unfoldable pub line_of_bytes : ℕ → List ℕ → Line
 line_of_bytes n b =
-    cond (nat_lt 32 (len_of b)) (refused TooLong)
-    (cond (bad_length n b) (refused BadLength)
-    (cond (bad_sum b) (refused BadSum) (good b)))
+    cond (nat_lt 32 (len_of b)) (refused (Err TooLong))
+    (cond (bad_length n b) (refused (Err BadLength))
+    (cond (bad_sum b) (refused (Err BadSum)) (good b)))
 
 -- rows 20 to 25, of a text; row 22: a character after the colon is no digit, with "the position of the first bad character, counted from 0 at
 -- the colon" (02)
 unfoldable pub line_of_text : List ℕ → Line
 line_of_text t =
-    cond (no_colon t) (refused NoColon)
-    (cond (bad_shape (length t)) (refused BadShape)
-    (cond (not (all_digits (drop 1 t))) (refused (BadDigit (1 + first_bad (drop 1 t)))) (line_of_bytes (length t) (bytes_of (drop 1 t)))))
+    cond (no_colon t) (refused (Err NoColon))
+    (cond (bad_shape (length t)) (refused (Err BadShape))
+    (cond (not (all_digits (drop 1 t))) (refused (Err (BadDigit (1 + first_bad (drop 1 t))))) (line_of_bytes (length t) (bytes_of (drop 1 t)))))
 
 -- a line as it is handed, its ending included
 unfoldable pub read_of : List ℕ → Line
 read_of l = line_of_text (text_of l)
 
--- ---- 01's numbers of the refusals; a good record has none, and 0 stands for it
+-- ---- 01's numbers of the refusals
+abbrev pub error_number : LineError → ℕ
+error_number NoColon = 20
+error_number BadShape = 21
+error_number (BadDigit p) = 22
+error_number TooLong = 23
+error_number BadLength = 24
+error_number BadSum = 25
+
+-- a good record has none, and 0 stands for it
 abbrev pub parsed_number : ParseResult → ℕ
-parsed_number NoColon = 20
-parsed_number BadShape = 21
-parsed_number (BadDigit p) = 22
-parsed_number TooLong = 23
-parsed_number BadLength = 24
-parsed_number BadSum = 25
-parsed_number (Good r) = 0
+parsed_number (Err e) = error_number e
+parsed_number (Ok r) = 0
 
 -- and the value of the one that has one: the position of the first bad character; 0 stands for none
 abbrev pub parsed_position : ParseResult → ℕ
-parsed_position NoColon = 0
-parsed_position BadShape = 0
-parsed_position (BadDigit p) = p
-parsed_position TooLong = 0
-parsed_position BadLength = 0
-parsed_position BadSum = 0
-parsed_position (Good r) = 0
+parsed_position (Err NoColon) = 0
+parsed_position (Err BadShape) = 0
+parsed_position (Err (BadDigit p)) = p
+parsed_position (Err TooLong) = 0
+parsed_position (Err BadLength) = 0
+parsed_position (Err BadSum) = 0
+parsed_position (Ok r) = 0
 
 -- ---- and the rows by these numbers: the first that a line fails, or 0 for a good record
 

@@ -1,7 +1,6 @@
 -- The text of a record, and the claim that it reads back as that record. Assumes nothing.
-use Rattle.std.specs.Prelude.{◌≡◌, ℕ, ◌+◌, ◌-◌, ◌/◌, ◌%◌, ◌<◌, ◌≤◌, cond, List, [], ◌∷◌, ◌++◌, length, nat_lt, slice_index}
+use Rattle.std.specs.Prelude.{◌≡◌, ℕ, ◌+◌, ◌-◌, ◌/◌, ◌%◌, ◌<◌, ◌≤◌, cond, List, [], ◌∷◌, ◌++◌, length, nat_lt, slice_index, Ok}
 use Rattle.ihex_record.specs.Record.{data32, total, read_of}
-use Rattle.ihex_record.specs.declared.ParseResult.TheVariants.{Good}
 
 -- the upper-case digit of a number below 16
 abbrev pub digit_text : ℕ → ℕ
@@ -44,4 +43,4 @@ abbrev pub ReadsBack : Type 0
 ReadsBack =
     (kind address : ℕ) (d e : List ℕ) → kind < 256 → address < 65536 → length d ≤ 32 → Bytes d → Ending e →
     read_of (record_text kind address d ++ e)
-    ≡ record { parsed = Good (record { kind = kind; address = address; len = length d }); «data» = data32 d }
+    ≡ record { parsed = Ok (record { kind = kind; address = address; len = length d }); «data» = data32 d }

@@ -5,20 +5,20 @@ pub mod record_bytes;
 pub mod record_line;
 
 ghost use Rattle.std.specs.Prelude.{◌≡◌, ◌%◌, ◌≤◌, length};
-ghost use Rattle.ihex_record.specs.Record.{text_len, total, word_from, refused, parsed_number};
+ghost use Rattle.ihex_record.specs.Record.{text_len, total, word_from, refused, error_number};
 
 // A good record: its type, its address field, and how many bytes of data it has.
 #[derive(Clone, Copy)]
 pub struct Record {
+    // Kept, contract: a number and no enum: a line of any type is read as a good record (`record_of`, `LineIsRead`).
     pub kind: u8,
     pub address: u16,
     pub len: u8,
 }
 
-// A record, or the first check that a line fails.
+// The first check that a line fails.
 #[derive(Clone, Copy)]
-pub enum ParseResult {
-    Good(Record),
+pub enum LineError {
     NoColon,
     BadShape,
     // the position of the first bad character, counted from 0 at the colon
@@ -28,10 +28,11 @@ pub enum ParseResult {
     BadSum,
 }
 
-// What a line says. A record's data is the first `len` bytes; the rest are 0.
+// What a line says: a record, or the check that it fails. A record's data is the first `len` bytes; the rest are 0.
+// Kept, contract: a refused line has its 32 zeros too (`refused`), and `read` promises both.
 #[derive(Clone, Copy)]
 pub struct Line {
-    pub parsed: ParseResult,
+    pub parsed: Result<Record, LineError>,
     pub data: [u8; Record::MAX],
 }
 
@@ -61,19 +62,18 @@ impl Record {
     pub const BYTES: usize = Record::MAX + 5;
 }
 
-impl ParseResult {
-    // 01's number of a refusal, or 0 for a good record.
+impl LineError {
+    // 01's number of a refusal.
     pub fn number(self) -> u8
-        ensures { result ≡ parsed_number self }
+        ensures { result ≡ error_number self }
     {
         match self {
-            ParseResult::Good(_) => 0,
-            ParseResult::NoColon => 20,
-            ParseResult::BadShape => 21,
-            ParseResult::BadDigit(_) => 22,
-            ParseResult::TooLong => 23,
-            ParseResult::BadLength => 24,
-            ParseResult::BadSum => 25,
+            LineError::NoColon => 20,
+            LineError::BadShape => 21,
+            LineError::BadDigit(_) => 22,
+            LineError::TooLong => 23,
+            LineError::BadLength => 24,
+            LineError::BadSum => 25,
         }
     }
 }
@@ -104,10 +104,8 @@ pub fn sum(bytes: &[u8]) -> u8
     ensures { result ≡ total bytes.now % 256 }
 {
     let mut s: u8 = 0;
-    let mut i = 0;
-    while i < bytes.len() {
+    for i in 0..bytes.len() {
         s = s.wrapping_add(bytes[i]);
-        i += 1;
     }
     s
 }
@@ -116,11 +114,12 @@ pub fn sum(bytes: &[u8]) -> u8
 pub fn word(high: u8, low: u8) -> u16
     ensures { result ≡ word_from high low }
 {
-    256 * (high as u16) + (low as u16)
+    u16::from_be_bytes([high, low])
 }
 
 // The line of a refusal.
-pub fn refusal(parsed: ParseResult) -> Line
+#[tactic(auto, unfolding(crate::specs::Record::data32, laws::specs::Tab::tab, laws::specs::Tab::from))]
+pub fn refusal(parsed: Result<Record, LineError>) -> Line
     ensures { result ≡ refused parsed }
 {
     Line {

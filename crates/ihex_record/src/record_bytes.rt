@@ -3,7 +3,7 @@ ghost use Rattle.std.specs.Prelude.{◌≡◌, ◌+◌, ◌≤◌, length};
 ghost use Rattle.ihex_record.specs.Record.{len_of, good};
 ghost use Rattle.ihex_record.specs.Bytes.{line_in};
 
-use crate::{Line, ParseResult, Record};
+use crate::{Line, LineError, Record};
 
 // The line of a good record, of which `used` bytes are data.
 fn good_line(bytes: &[u8], used: usize) -> Line
@@ -17,7 +17,7 @@ fn good_line(bytes: &[u8], used: usize) -> Line
     let mut data = [0u8; Record::MAX];
     data[..used].copy_from_slice(&bytes[4..e]);
     Line {
-        parsed: ParseResult::Good(Record { kind, address, len }),
+        parsed: Ok(Record { kind, address, len }),
         data,
     }
 }
@@ -29,15 +29,15 @@ pub fn read_bytes(n: usize, bytes: &[u8; Record::BYTES]) -> Line
     let room: &[u8] = bytes;
     let used = room[0] as usize;
     if Record::MAX < used {
-        return crate::refusal(ParseResult::TooLong);
+        return crate::refusal(Err(LineError::TooLong));
     }
     if n != 11 + 2 * used {
-        return crate::refusal(ParseResult::BadLength);
+        return crate::refusal(Err(LineError::BadLength));
     }
     let e = used + 5;
     let all = &room[..e];
     if crate::sum(all) != 0 {
-        return crate::refusal(ParseResult::BadSum);
+        return crate::refusal(Err(LineError::BadSum));
     }
     good_line(all, used)
 }

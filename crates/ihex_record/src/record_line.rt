@@ -2,7 +2,7 @@
 ghost use Rattle.std.specs.Prelude.{◌≡◌, ◌<◌, false, length, slice_index};
 ghost use Rattle.ihex_record.specs.Record.{bad_shape, line_of_text, read_of, parsed_number, row_of};
 
-use crate::{Line, ParseResult, Record};
+use crate::{Line, LineError, Record};
 
 // Rows 22 to 25 of a text that has passed rows 20 and 21.
 fn read_digits(t: &[u8]) -> Line
@@ -13,7 +13,7 @@ fn read_digits(t: &[u8]) -> Line
     let mut bytes = [0u8; Record::BYTES];
     let bad = hex_digits::judge(&t[1..], &mut bytes);
     if bad < n - 1 {
-        return crate::refusal(ParseResult::BadDigit((bad + 1) as u16));
+        return crate::refusal(Err(LineError::BadDigit((bad + 1) as u16)));
     }
     crate::record_bytes::read_bytes(n, &bytes)
 }
@@ -24,13 +24,13 @@ fn read_text(t: &[u8]) -> Line
 {
     let n = t.len();
     if n == 0 {
-        return crate::refusal(ParseResult::NoColon);
+        return crate::refusal(Err(LineError::NoColon));
     }
     if t[0] != 58 {
-        return crate::refusal(ParseResult::NoColon);
+        return crate::refusal(Err(LineError::NoColon));
     }
     if (n < 11) | (521 < n) | (n % 2 == 0) {
-        return crate::refusal(ParseResult::BadShape);
+        return crate::refusal(Err(LineError::BadShape));
     }
     read_digits(t)
 }

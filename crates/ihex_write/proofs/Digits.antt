@@ -21,12 +21,6 @@ pub text_one : (b : ℕ) → bytes_text (b ∷ []) ≡ digit_text (b / 16) ∷ d
 unfolding bytes_text
 text_one b = refl
 
--- a byte, digit by digit
-pub byte_put : (out : List ℕ) (at b : ℕ) {high low : ℕ} {one two : List ℕ} → at + 2 ≤ length out → high ≡ digit_text (b / 16) → low ≡ digit_text (b % 16)
-    → one ≡ over out at (high ∷ []) → two ≡ over one (at + 1) (low ∷ []) → two ≡ over out at (bytes_text (b ∷ []))
-byte_put out at b {high} {low} {one} {two} h p q e f =
-    f ∙ rw (e, p, q, text_one b) (over_next out at (digit_text (b / 16) ∷ []) (at + 1) (digit_text (b % 16) ∷ []) refl (omega arith))
-
 -- bytes, none of them, and one more
 pub bytes_none : (out : List ℕ) (at : ℕ) (bytes : List ℕ) → at ≤ length out → out ≡ over out at (bytes_text (take 0 bytes))
 unfolding bytes_text

@@ -1,5 +1,5 @@
 -- The line of a record: how long it is, its parts one after the other, and where it does not fit. Assumes nothing.
-use Rattle.std.proofs.Common.{◌≡◌, ℕ, ◌+◌, ◌*◌, ◌/◌, ◌%◌, ◌<◌, ◌≤◌, Bool, true, false, leb, List, [], ◌∷◌, ◌++◌, length, sym, refl, ap, ◌∙◌, arith, length-append, le-leb, leb-false, leb-true}
+use Rattle.std.proofs.Common.{◌≡◌, ℕ, ◌+◌, ◌*◌, ◌/◌, ◌%◌, ◌<◌, ◌≤◌, Bool, true, false, leb, List, [], ◌∷◌, ◌++◌, length, get_or, sym, refl, ap, ◌∙◌, arith, length-append, le-leb, leb-false, leb-true}
 use borrow.Author.Tests.{lt-leb}
 use Rattle.laws.specs.Over.{over}
 use Rattle.laws.proofs.OverLaws.{over_next}
@@ -19,6 +19,13 @@ length_line kind address d =
     omega (arith, length-append (58 ∷ bytes_text (f ++ c)) (10 ∷ []), length_text (f ++ c), length-append f c)
 
 -- ---- its parts
+
+-- the bytes of the address, high first
+pub high_byte : (two : List ℕ) (w : ℕ) → w < 65536 → two ≡ w / 256 % 256 ∷ w % 256 ∷ [] → get_or two 0 0 ≡ w / 256
+high_byte two w h e = rw e (omega arith)
+
+pub low_byte : (two : List ℕ) (w : ℕ) → two ≡ w / 256 % 256 ∷ w % 256 ∷ [] → get_or two 1 0 ≡ w % 256
+low_byte two w e = rw e refl
 
 grown : (out : List ℕ) (at k : ℕ) (s t : List ℕ) {x y : List ℕ} → x ≡ over out at s → y ≡ over x k t → at + length s ≡ k → k + length t ≤ length out
     → y ≡ over out at (s ++ t)

@@ -29,12 +29,10 @@ pub fn put_fill(out: &mut [u8], at: usize, n: usize)
     if out.len() < at {
         return;
     }
-    let mut place = at;
-    let mut m = missing_after(n);
-    while 64 < m {
-        put_filling(out, place, Record::PADDED_DATA, 26);
-        place += 64;
-        m -= 64;
+    let m = missing_after(n);
+    let pads = m.saturating_sub(1) / 64;
+    for k in 0..pads {
+        put_filling(out, at + 64 * k, Record::PADDED_DATA, 26);
     }
-    put_filling(out, place, Record::BLOCK_END, m / 2);
+    put_filling(out, at + 64 * pads, Record::BLOCK_END, (m - 64 * pads) / 2);
 }

@@ -9,20 +9,12 @@ ghost use Rattle.laws.specs.Over.{over};
 ghost use Rattle.ihex_record.specs.Write.{bytes_text, record_line};
 ghost use Rattle.ihex_write.specs.Put.{put_record};
 
-fn put_char(out: &mut [u8], at: usize, c: u8)
-    requires { at < length out.old }
-    ensures { out.new ≡ over out.old at (c ∷ []) }
-{
-    out[at] = c;
-}
-
 // A byte's two digits, high first.
 fn put_byte(out: &mut [u8], at: usize, b: u8)
     requires { at + 2 ≤ length out.old }
     ensures { out.new ≡ over out.old at (bytes_text (b ∷ [])) }
 {
-    put_char(out, at, crate::digit_text::high_digit(b));
-    put_char(out, at + 1, crate::digit_text::low_digit(b));
+    out[at..at + 2].copy_from_slice(&crate::digit_text::digits(b));
 }
 
 // The digits of bytes.
@@ -30,10 +22,8 @@ fn put_bytes(out: &mut [u8], at: usize, bytes: &[u8])
     requires { at + 2 * length bytes.now ≤ length out.old }
     ensures { out.new ≡ over out.old at (bytes_text bytes.now) }
 {
-    let mut i = 0;
-    while i < bytes.len() {
+    for i in 0..bytes.len() {
         put_byte(out, at + 2 * i, bytes[i]);
-        i += 1;
     }
 }
 
@@ -43,23 +33,19 @@ fn put_line(out: &mut [u8], at: usize, kind: u8, address: u16, data: &[u8])
     requires room { at + (12 + 2 * length «data».now) ≤ length out.old }
     ensures { out.new ≡ over out.old at (record_line kind address «data».now) }
 {
-    let head = [
-        data.len() as u8,
-        (address / 256) as u8,
-        (address % 256) as u8,
-        kind,
-    ];
+    let [high, low] = address.to_be_bytes();
+    let head = [data.len() as u8, high, low, kind];
     let sum = ihex_record::sum(&head).wrapping_add(ihex_record::sum(data));
     let check = 0u8.wrapping_sub(sum);
     let digits = at + 1;
     let rest = at + 9;
     let tail = rest + 2 * data.len();
     let last = tail + 2;
-    put_char(out, at, b':');
+    out[at] = b':';
     put_bytes(out, digits, &head);
     put_bytes(out, rest, data);
     put_byte(out, tail, check);
-    put_char(out, last, b'\n');
+    out[last] = b'\n';
 }
 
 // Writes a record's line from an index on. Where it does not fit, or the record has more data than a record may, nothing is written.

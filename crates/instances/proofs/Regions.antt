@@ -9,6 +9,7 @@ use lib.Dec.{eqb, ltb, leb}
 use lib.ListN.{length, get_or, take, drop, replicate, length-replicate, get_or-replicate}
 use lib.Seq.{ext_get_or}
 use borrow.Author.Tests.{leb-true, ltb-true, le-leb, lt-ltb, eqb-true, eq-eqb}
+use Rattle.std.specs.Prelude.{Some}
 use Rattle.laws.proofs.Tests.{split, eqb_same, and_left, and_right, both}
 use Rattle.laws.proofs.Laws.{any_found, any_hit}
 use Rattle.memory.specs.Many.{many}
@@ -21,8 +22,7 @@ use Rattle.md5_digest.specs.Md5.{md5_of, digest_bytes}
 use Rattle.md5_digest.proofs.Laws.{digest_words}
 use Rattle.uf2_block.specs.Regions.{good_region}
 use Rattle.partitions.specs.Settings.{family_arm_s, good_settings}
-use Rattle.placement.specs.Place.{place_of}
-use Rattle.placement.specs.declared.Place.TheVariants.{At}
+use Rattle.placement.specs.Place.{place_of, place_from}
 use Rattle.transfer.specs.Transfer.{number_of, good_state, counted, raised, accepted, step_of}
 use Rattle.transfer.specs.declared.Kind.TheVariants.{Flash}
 use Rattle.transfer.specs.declared.Answer.{Answer}
@@ -140,7 +140,7 @@ final_length = length-replicate {A = ℕ} 4096 255
 
 -- ---- the file, in a flash of 65,536 bytes without a table
 
-module _ (w : World) (place : place_of plain (length w.held.flash) family_arm_s ≡ At 0 65536) (n : ℕ) (some : 1 ≤ n) (few : n ≤ 2) where
+module _ (w : World) (place : place_of plain (length w.held.flash) family_arm_s ≡ Some (place_from 0 65536)) (n : ℕ) (some : 1 ≤ n) (few : n ≤ 2) where
   abbrev F : File
   F = naming_file n
 
@@ -278,7 +278,7 @@ or_second : (a b : Bool) → b ≡ true → a || b ≡ true
 or_second true b e = refl
 or_second false b e = e
 
-place_is : (f : ℕ) → place_of plain (length (replicate 65536 f)) family_arm_s ≡ At 0 65536
+place_is : (f : ℕ) → place_of plain (length (replicate 65536 f)) family_arm_s ≡ Some (place_from 0 65536)
 unfolding place_of
 place_is f = ap (λ (n : ℕ). place_of plain n family_arm_s) (length-replicate 65536 f)
 

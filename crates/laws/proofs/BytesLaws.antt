@@ -2,6 +2,7 @@
 use mathlib.Core.Path.{◌≡◌, refl, ap}
 use mathlib.Core.List.{List, [], ◌∷◌, ◌++◌, append_assoc}
 use Prim.Native.Nat.{ℕ, zero, suc, ◌+◌, ◌*◌, ◌/◌, ◌%◌, ◌<◌, ◌^◌}
+use Rattle.std.specs.Int.{w32, w64, from_le_bytes, to_le_bytes}
 use native.Mathlib.Nat.{pow-suc, div-div-eq-div-mul}
 use native.Mathlib.Omega.{arith}
 use lib.ListN.{length, get_or, length-append}
@@ -51,3 +52,25 @@ low_four x =
     let two : x / 256 / 256 ≡ x / 65536 = div-div-eq-div-mul x 256 256 in
     let three : x / 65536 / 256 ≡ x / 16777216 = div-div-eq-div-mul x 65536 256 in
     rw (two, three)
+
+-- ---- as the methods of `std` read and write them
+
+pub read_four : (b : List ℕ) (at : ℕ) → from_le_bytes w32 (get_or b at 0 ∷ get_or b (at + 1) 0 ∷ get_or b (at + 2) 0 ∷ get_or b (at + 3) 0 ∷ []) ≡ number_in 4 b at
+read_four b at = omega (arith, number_four b at)
+
+pub write_four : (x : ℕ) → to_le_bytes w32 x ≡ low_first 4 x
+write_four x = rw low_four
+
+-- the lowest 64 bits of a number of any size
+pub write_eight : (x : ℕ) → to_le_bytes w64 (x % 2 ^ 64) ≡ low_first 8 x
+unfolding low_first
+write_eight x =
+    let e0 : x % 2 ^ 64 % 256 ≡ x % 256 = omega arith in
+    let e1 : x % 2 ^ 64 / 256 ^ 1 % 256 ≡ x / 256 % 256 = omega arith in
+    let e2 : x % 2 ^ 64 / 256 ^ 2 % 256 ≡ x / 256 / 256 % 256 = omega arith in
+    let e3 : x % 2 ^ 64 / 256 ^ 3 % 256 ≡ x / 256 / 256 / 256 % 256 = omega arith in
+    let e4 : x % 2 ^ 64 / 256 ^ 4 % 256 ≡ x / 256 / 256 / 256 / 256 % 256 = omega arith in
+    let e5 : x % 2 ^ 64 / 256 ^ 5 % 256 ≡ x / 256 / 256 / 256 / 256 / 256 % 256 = omega arith in
+    let e6 : x % 2 ^ 64 / 256 ^ 6 % 256 ≡ x / 256 / 256 / 256 / 256 / 256 / 256 % 256 = omega arith in
+    let e7 : x % 2 ^ 64 / 256 ^ 7 % 256 ≡ x / 256 / 256 / 256 / 256 / 256 / 256 / 256 % 256 = omega arith in
+    λ i. e0 i ∷ e1 i ∷ e2 i ∷ e3 i ∷ e4 i ∷ e5 i ∷ e6 i ∷ e7 i ∷ []

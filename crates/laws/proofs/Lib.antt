@@ -4,6 +4,7 @@ pub mod Laws
 pub mod TabLaws
 pub mod OverLaws
 pub mod BytesLaws
+pub mod Masks
 pub mod RowsLaws
 pub mod Numbered
 -- The laws of `specs/`.

@@ -1,8 +1,9 @@
 -- One step more, one block more, and what stands after a message. Assumes nothing.
-use Rattle.std.proofs.Common.{◌≡◌, ℕ, zero, suc, ◌+◌, ◌-◌, ◌*◌, ◌/◌, ◌%◌, ◌^◌, ◌<◌, ◌≤◌, Bool, T, ltb, List, [], ◌∷◌, ◌++◌, length, get_or, take, drop, set, replicate, sym, refl, ap, ◌∙◌, append_assoc, append-nil, add-zero, add-suc, mod-lt, suc-add, zero-add, add-one, arith, ltb→lt, length-append, length-drop, length-take-le, take_all, take-take, drop-drop, take-suc-set, take_at, drop_at, le-ltb, lt-ltb}
+use Rattle.std.proofs.Common.{◌≡◌, ℕ, zero, suc, ◌+◌, ◌-◌, ◌*◌, ◌/◌, ◌%◌, ◌^◌, ◌<◌, ◌≤◌, Bool, T, ltb, List, [], ◌∷◌, ◌++◌, length, get_or, take, drop, set, replicate, sym, refl, ap, ◌∙◌, append_assoc, add-zero, add-suc, mod-lt, suc-add, zero-add, add-one, arith, ltb→lt, length-append, length-drop, length-take-le, take_all, take-take, drop-drop, take_at, drop_at, le-ltb, lt-ltb}
 use lib.ListN.{length-replicate, replicate-append-replicate}
-use lib.Seq.{take-length, take-nil, drop-nil, drop-append-le, take-append-le, set_at}
-use lib.Bits.{bit_or}
+use lib.Seq.{take-nil, drop-nil, drop-append-le, take-append-le, set_at}
+use Rattle.std.specs.Int as std
+use Rattle.std.specs.Int.{w32}
 use Rattle.md5_digest.proofs.Table.{at, both, both_left, both_right}
 use Rattle.md5_digest.specs.declared.Digest.{Digest}
 use Rattle.md5_digest.specs.Md5.{add, rotate_left, f_of, g_of, h_of, i_of, sines, shifts, operation_of, step_of, steps_of, plus, block_of, blocks_of, pad_with, pad_of, md5_of, start}
@@ -20,58 +21,47 @@ pub shift_bounds : (ns : List ℕ) (i : ℕ) → ns ≡ shifts → i < 64 → (0
 unfolding shifts right
 shift_bounds ns i e h = rw e (split (get_or shifts i 0) (at right shifts tt i h))
 
-pub turned : (m ks ns : List ℕ) (i f p : ℕ) (s : Digest) (w x y z q b : ℕ) → ks ≡ sines → ns ≡ shifts → w ≡ number_in 4 m (4 * p)
-    → x ≡ add s.a f → y ≡ add x (get_or ks i 0) → z ≡ add y w → q ≡ rotate_left z (get_or ns i 0) → b ≡ add s.b q
-    → ◌≡◌ {A = Digest} (record { a = s.d; b = b; c = s.b; d = s.c }) (operation_of m i f p s)
+-- three words added to a fourth, in two orders
+add_last : (a f k w : ℕ) → add (add (add a w) k) f ≡ add (add (add a f) k) w
+add_last a f k w = omega arith
+
+pub turned : (m ks ns : List ℕ) (i f p : ℕ) (s : Digest) {w q : ℕ} → ks ≡ sines → ns ≡ shifts → w ≡ number_in 4 m (4 * p)
+    → q ≡ rotate_left (add (add (add s.a w) (get_or ks i 0)) f) (get_or ns i 0)
+    → ◌≡◌ {A = Digest} (record { a = s.d; b = add s.b q; c = s.b; d = s.c }) (operation_of m i f p s)
 unfolding operation_of
-turned m ks ns i f p s w x y z q b hk hn hw hx hy hz hq hb = rw (hb, hq, hz, hy, hx, hw, hk, hn) refl
+turned m ks ns i f p s {w} hk hn hw hq = rw (hq, add_last s.a f (get_or ks i 0) w, hw, hk, hn) refl
 
-pub added : (m : List ℕ) (s t : Digest) (a b c d : ℕ) → t ≡ steps_of m s 64 → a ≡ add s.a t.a → b ≡ add s.b t.b → c ≡ add s.c t.c → d ≡ add s.d t.d
-    → ◌≡◌ {A = Digest} (record { a = a; b = b; c = c; d = d }) (block_of m s)
+pub added : (m : List ℕ) (s t : Digest) → t ≡ steps_of m s 64
+    → ◌≡◌ {A = Digest} (record { a = add s.a t.a; b = add s.b t.b; c = add s.c t.c; d = add s.d t.d }) (block_of m s)
 unfolding block_of plus
-added m s t a b c d h ha hb hc hd = rw (ha, hb, hc, hd, h) refl
+added m s t h = rw h refl
 
--- the operation of each round
-step_f : (m : List ℕ) (i : ℕ) (s : Digest) → i < 16 → operation_of m i (f_of s.b s.c s.d) i s ≡ step_of m i s
-unfolding step_of
-step_f m i s h = rw (lt-ltb i 16 h) refl
+-- the operation of each round, with f for its function's value
+module _ (m : List ℕ) (i : ℕ) (s : Digest) {u : Digest} {f : ℕ} where
+  pub step_f : i < 16 → f ≡ f_of s.b s.c s.d → u ≡ operation_of m i f i s → u ≡ step_of m i s
+  unfolding step_of
+  step_f h e o = o ∙ rw (e, lt-ltb i 16 h) refl
 
-step_g : (m : List ℕ) (i : ℕ) (s : Digest) → 16 ≤ i → i < 32 → operation_of m i (g_of s.b s.c s.d) ((5 * i + 1) % 16) s ≡ step_of m i s
-unfolding step_of
-step_g m i s l h = rw (le-ltb i 16 l, lt-ltb i 32 h) refl
+  pub step_g : 16 ≤ i → i < 32 → f ≡ g_of s.b s.c s.d → u ≡ operation_of m i f ((5 * i + 1) % 16) s → u ≡ step_of m i s
+  unfolding step_of
+  step_g l h e o = o ∙ rw (e, le-ltb i 16 l, lt-ltb i 32 h) refl
 
-step_h : (m : List ℕ) (i : ℕ) (s : Digest) → 32 ≤ i → i < 48 → operation_of m i (h_of s.b s.c s.d) ((3 * i + 5) % 16) s ≡ step_of m i s
-unfolding step_of
-step_h m i s l h = rw (le-ltb i 16 (omega arith), le-ltb i 32 l, lt-ltb i 48 h) refl
+  pub step_h : 32 ≤ i → i < 48 → f ≡ h_of s.b s.c s.d → u ≡ operation_of m i f ((3 * i + 5) % 16) s → u ≡ step_of m i s
+  unfolding step_of
+  step_h l h e o = o ∙ rw (e, le-ltb i 16 (omega arith), le-ltb i 32 l, lt-ltb i 48 h) refl
 
-step_i : (m : List ℕ) (i : ℕ) (s : Digest) → 48 ≤ i → operation_of m i (i_of s.b s.c s.d) (7 * i % 16) s ≡ step_of m i s
-unfolding step_of
-step_i m i s l = rw (le-ltb i 16 (omega arith), le-ltb i 32 (omega arith), le-ltb i 48 l) refl
+  pub step_i : 48 ≤ i → f ≡ i_of s.b s.c s.d → u ≡ operation_of m i f (7 * i % 16) s → u ≡ step_of m i s
+  unfolding step_of
+  step_i l e o = o ∙ rw (e, le-ltb i 16 (omega arith), le-ltb i 32 (omega arith), le-ltb i 48 l) refl
 
 pub steps_none : (m : List ℕ) (s : Digest) → s ≡ steps_of m s 0
 unfolding steps_of
 steps_none m s = refl
 
-steps_more : (m : List ℕ) (s : Digest) (i : ℕ) → step_of m i (steps_of m s i) ≡ steps_of m s (i + 1)
+-- one operation more
+pub steps_next : (m : List ℕ) (s t u : Digest) (i : ℕ) → t ≡ steps_of m s i → u ≡ step_of m i t → u ≡ steps_of m s (i + 1)
 unfolding steps_of
-steps_more m s i = rw (add-one i) refl
-
--- one operation more, in each of the rounds: f is its function's value and k its word
-module _ (m : List ℕ) (s t u : Digest) (i f k : ℕ) (e : t ≡ steps_of m s i) (o : u ≡ operation_of m i f k t) where
-  next : (g p : ℕ) → f ≡ g → k ≡ p → operation_of m i g p t ≡ step_of m i t → u ≡ steps_of m s (i + 1)
-  next g p hf hk h = o ∙ rw (hf, hk) h ∙ ap (step_of m i) e ∙ steps_more m s i
-
-  pub next_f : f ≡ f_of t.b t.c t.d → k ≡ i → i < 16 → u ≡ steps_of m s (i + 1)
-  next_f hf hk h = next _ _ hf hk (step_f m i t h)
-
-  pub next_g : f ≡ g_of t.b t.c t.d → k ≡ (5 * i + 1) % 16 → 16 ≤ i → i < 32 → u ≡ steps_of m s (i + 1)
-  next_g hf hk l h = next _ _ hf hk (step_g m i t l h)
-
-  pub next_h : f ≡ h_of t.b t.c t.d → k ≡ (3 * i + 5) % 16 → 32 ≤ i → i < 48 → u ≡ steps_of m s (i + 1)
-  next_h hf hk l h = next _ _ hf hk (step_h m i t l h)
-
-  pub next_i : f ≡ i_of t.b t.c t.d → k ≡ 7 * i % 16 → 48 ≤ i → u ≡ steps_of m s (i + 1)
-  next_i hf hk l = next _ _ hf hk (step_i m i t l)
+steps_next m s t u i e o = o ∙ rw (add-one i, e) refl
 
 pub blocks_none : (l : List ℕ) (s : Digest) → s ≡ blocks_of l s 0
 unfolding blocks_of
@@ -80,23 +70,6 @@ blocks_none l s = refl
 pub blocks_more : (l : List ℕ) (s : Digest) (k : ℕ) → block_of (take 64 (drop (64 * k) l)) (blocks_of l s k) ≡ blocks_of l s (k + 1)
 unfolding blocks_of
 blocks_more l s k = rw (add-one k) refl
-
--- the number that is still to be written stands behind the bytes that are
-pub low_first_lem : (d : List ℕ) (n : ℕ) → length d ≡ 8 → low_first 8 (8 * n) ≡ take 1 (set d 0 (n % 32 * 8)) ++ low_first 7 (n / 32)
-unfolding low_first
-low_first_lem d n e =
-    let p : 8 * n % 256 ≡ n % 32 * 8 = omega arith in
-    let q : 8 * n / 256 ≡ n / 32 = omega arith in
-    let h : 0 < length d = omega arith in
-    rw (p, q, take-suc-set d 0 (n % 32 * 8) h) refl
-
-pub low_more : (d : List ℕ) (x i k : ℕ) → i < length d → take i d ++ low_first (suc k) x ≡ take (i + 1) (set d i (x % 256)) ++ low_first k (x / 256)
-unfolding low_first
-low_more d x i k h = rw (add-one i, take-suc-set d i (x % 256), append_assoc) refl
-
-pub low_end : (d : List ℕ) (x i : ℕ) → length d ≡ 8 → i ≡ 8 → take i d ++ low_first (8 - i) x ≡ d
-unfolding low_first
-low_end d x i e p = rw (p, take_all 8 d (omega arith), append-nil) refl
 
 part : (n m : ℕ) (l : List ℕ) → take m (drop n l) ≡ drop n (take (n + m) l)
 part zero m l = rw (zero-add m) refl
@@ -199,8 +172,8 @@ pub ended : (l : List ℕ) (s t : Digest) (n e : ℕ) → (119 - n % 64) % 64 �
     → s ≡ blocks_of (l ++ pad_with (e - 1 - n % 64) n) t ((e + 8) / 64) → s ≡ blocks_of (l ++ pad_of n) t ((n % 64 + 72) / 64)
 ended l s t n e p q h = rw (p, q) h
 
--- a rotation, with both amounts below 32 as a processor takes them
-pub rotate_is : (x n : ℕ) → 0 < n → n < 32 → bit_or (x * 2 ^ (n % 32) % 2 ^ 32) (x / 2 ^ ((32 - n) % 32)) ≡ rotate_left x n
+-- a rotation, as the method of `std` has it
+pub rotate_is : (x n : ℕ) → 0 < n → n < 32 → std.rotate_left w32 x n ≡ rotate_left x n
 unfolding rotate_left
 rotate_is x n p q =
     let e : n % 32 ≡ n = omega arith in

@@ -1,6 +1,6 @@
 -- The MD5 message digest of a list of bytes, in the order and words of RFC 1321. "X + Y" is `add`, the sum of words modulo 2 ^ 32; a byte
 -- sequence is words "with the low-order (least significant) byte given first". Assumes nothing.
-use Rattle.std.specs.Prelude.{ℕ, zero, suc, ◌+◌, ◌-◌, ◌*◌, ◌/◌, ◌%◌, ◌^◌, cond, List, [], ◌∷◌, ◌++◌, length, take, drop, replicate, bit_and, bit_or, bit_xor, nat_lt, slice_index}
+use Rattle.std.specs.Prelude.{ℕ, zero, suc, ◌+◌, ◌-◌, ◌*◌, ◌/◌, ◌%◌, ◌^◌, cond, List, ◌∷◌, ◌++◌, length, take, drop, replicate, bit_and, bit_or, bit_xor, nat_lt, slice_index}
 use Rattle.laws.specs.Bytes.{low_first, number_in}
 unfoldable pub use Rattle.md5_digest.specs.Schedule.{sines, shifts}
 use Rattle.md5_digest.specs.declared.Digest.{Digest}

@@ -3,31 +3,18 @@
 
 pub mod schedule;
 
-ghost use Rattle.std.specs.Prelude.{◌≡◌, ◌+◌, ◌-◌, ◌*◌, ◌/◌, ◌%◌, ◌^◌, ◌<◌, ◌≤◌, ◌++◌, length};
+ghost use Rattle.std.specs.Prelude.{◌≡◌, ◌+◌, ◌-◌, ◌*◌, ◌/◌, ◌%◌, ◌<◌, ◌≤◌, ◌++◌, length};
 ghost use Rattle.laws.specs.Bytes.{low_first, number_in};
-ghost use Rattle.md5_digest.specs.Md5.{sines, shifts, rotate_left, f_of, g_of, h_of, i_of, operation_of, block_of, blocks_of, pad_with, pad_of, md5_of};
+ghost use Rattle.md5_digest.specs.declared.Digest.{Digest};
+ghost use Rattle.md5_digest.specs.Md5.{sines, shifts, f_of, g_of, h_of, i_of, operation_of, step_of, steps_of, block_of, blocks_of, pad_with, pad_of, md5_of};
 
 // The four words A, B, C, D: of the digest, and of the buffer on the way to it.
-#[derive(Clone, Copy)]
+#[derive(Clone, Copy, PartialEq, Eq)]
 pub struct Digest {
     pub a: u32,
     pub b: u32,
     pub c: u32,
     pub d: u32,
-}
-
-// The sum of two words.
-fn sum(a: u32, b: u32) -> u32
-    ensures { result ≡ (a + b) % 2 ^ 32 }
-{
-    a.wrapping_add(b)
-}
-
-fn rotate_left(x: u32, n: u32) -> u32
-    requires { (0 < n) × (n < 32) }
-    ensures { result ≡ rotate_left x n }
-{
-    (x << (n % 32)) | (x >> ((32 - n) % 32))
 }
 
 // The four functions, one a round.
@@ -55,35 +42,67 @@ fn mix_i(x: u32, y: u32, z: u32) -> u32
     y ^ (x | !z)
 }
 
-// The word of four bytes, the lowest first.
-fn joined(a: u8, b: u8, c: u8, d: u8) -> u32
-    ensures { result ≡ a + 256 * b + 65536 * c + 16777216 * d }
-{
-    (a as u32) + 256 * (b as u32) + 65536 * (c as u32) + 16777216 * (d as u32)
-}
-
 // The word at an offset.
 fn word(m: &[u8], at: usize) -> u32
     requires { at + 4 ≤ length m.now }
     ensures { result ≡ number_in 4 m.now at }
 {
-    joined(m[at], m[at + 1], m[at + 2], m[at + 3])
+    u32::from_le_bytes([m[at], m[at + 1], m[at + 2], m[at + 3]])
 }
 
 // Operation i of a block, with the value f of its function and the word p of the block.
-fn step(m: &[u8], ks: &[u32; 64], ns: &[u32; 64], i: usize, f: u32, p: usize, s: Digest) -> Digest
+fn operation(
+    m: &[u8],
+    ks: &[u32; 64],
+    ns: &[u32; 64],
+    i: usize,
+    f: u32,
+    p: usize,
+    s: Digest,
+) -> Digest
     requires { (i < 64) × (p < 16) × (64 ≤ length m.now) × (ks.now ≡ sines) × (ns.now ≡ shifts) }
     ensures { result ≡ operation_of m.now i f p s }
 {
     let w = word(m, 4 * p);
-    let n = ns[i];
-    let x = sum(sum(sum(s.a, f), ks[i]), w);
+    // f is added last: it waits for the operation before
+    let x = s.a.wrapping_add(w).wrapping_add(ks[i]).wrapping_add(f);
     Digest {
         a: s.d,
-        b: sum(s.b, rotate_left(x, n)),
+        b: s.b.wrapping_add(x.rotate_left(ns[i])),
         c: s.b,
         d: s.c,
     }
+}
+
+// Operation i of a block, which round R has: by the round its function, and the word that it takes.
+fn step<const R: usize>(m: &[u8], ks: &[u32; 64], ns: &[u32; 64], i: usize, s: Digest) -> Digest
+    requires round { (R < 4) × (16 * R ≤ i) × (i < 16 * R + 16) }
+    requires tables { (64 ≤ length m.now) × (ks.now ≡ sines) × (ns.now ≡ shifts) }
+    ensures { result ≡ step_of m.now i s }
+{
+    if R == 0 {
+        return operation(m, ks, ns, i, mix_f(s.b, s.c, s.d), i, s);
+    }
+    if R == 1 {
+        return operation(m, ks, ns, i, mix_g(s.b, s.c, s.d), (5 * i + 1) % 16, s);
+    }
+    if R == 2 {
+        return operation(m, ks, ns, i, mix_h(s.b, s.c, s.d), (3 * i + 5) % 16, s);
+    }
+    operation(m, ks, ns, i, mix_i(s.b, s.c, s.d), 7 * i % 16, s)
+}
+
+// The 16 operations of round R.
+fn round<const R: usize>(m: &[u8], ks: &[u32; 64], ns: &[u32; 64], s: Digest) -> Digest
+    requires round { R < 4 }
+    requires tables { (64 ≤ length m.now) × (ks.now ≡ sines) × (ns.now ≡ shifts) }
+    ensures { (start : Digest) → s ≡ steps_of m.now start (16 * R) → result ≡ steps_of m.now start (16 * R + 16) }
+{
+    let mut t = s;
+    for i in 16 * R..16 * R + 16 {
+        t = step::<R>(m, ks, ns, i, t);
+    }
+    t
 }
 
 // A block: its four rounds, and the words from before it added.
@@ -91,53 +110,15 @@ fn block(m: &[u8], ks: &[u32; 64], ns: &[u32; 64], s: Digest) -> Digest
     requires { (64 ≤ length m.now) × (ks.now ≡ sines) × (ns.now ≡ shifts) }
     ensures { result ≡ block_of m.now s }
 {
-    let mut t = s;
-    let mut i = 0;
-    while i < 16 {
-        t = step(m, ks, ns, i, mix_f(t.b, t.c, t.d), i, t);
-        i += 1;
-    }
-    while i < 32 {
-        t = step(
-            m,
-            ks,
-            ns,
-            i,
-            mix_g(t.b, t.c, t.d),
-            crate::schedule::word_g(i as u8),
-            t,
-        );
-        i += 1;
-    }
-    while i < 48 {
-        t = step(
-            m,
-            ks,
-            ns,
-            i,
-            mix_h(t.b, t.c, t.d),
-            crate::schedule::word_h(i as u8),
-            t,
-        );
-        i += 1;
-    }
-    while i < 64 {
-        t = step(
-            m,
-            ks,
-            ns,
-            i,
-            mix_i(t.b, t.c, t.d),
-            crate::schedule::word_i(i as u8),
-            t,
-        );
-        i += 1;
-    }
+    let f = round::<0>(m, ks, ns, s);
+    let g = round::<1>(m, ks, ns, f);
+    let h = round::<2>(m, ks, ns, g);
+    let t = round::<3>(m, ks, ns, h);
     Digest {
-        a: sum(s.a, t.a),
-        b: sum(s.b, t.b),
-        c: sum(s.c, t.c),
-        d: sum(s.d, t.d),
+        a: s.a.wrapping_add(t.a),
+        b: s.b.wrapping_add(t.b),
+        c: s.c.wrapping_add(t.c),
+        d: s.d.wrapping_add(t.d),
     }
 }
 
@@ -149,29 +130,19 @@ fn blocks(l: &[u8], n: usize, s: Digest) -> Digest
     let ks = crate::schedule::sines();
     let ns = crate::schedule::shifts();
     let mut t = s;
-    let mut k = 0;
-    while k < n {
+    for k in 0..n {
         let a = 64 * k;
         let e = a + 64;
         t = block(&l[a..e], &ks, &ns, t);
-        k += 1;
     }
     t
 }
 
-// The length in bits of n bytes, in eight bytes, the lowest first. 8 * n may be past 64 bits, and is not computed.
-fn put_bits(d: &mut [u8], n: usize)
-    requires { length d.old ≡ 8 }
-    ensures { d.new ≡ low_first 8 (8 * n) }
+// The length in bits of n bytes, in eight bytes, the lowest first: the low 64 bits.
+fn bits(n: usize) -> [u8; 8]
+    ensures { result ≡ low_first 8 (8 * n) }
 {
-    d[0] = (n % 32 * 8) as u8;
-    let mut x = n / 32;
-    let mut i = 1;
-    while i < 8 {
-        d[i] = (x % 256) as u8;
-        x = x / 256;
-        i += 1;
-    }
+    (n as u64).wrapping_mul(8).to_le_bytes()
 }
 
 // The last part of a message of n bytes, less than a block, with the padding and, from e on, the length.
@@ -184,7 +155,7 @@ fn last(rest: &[u8], n: usize, e: usize, s: Digest) -> Digest
     tail[..r].copy_from_slice(rest);
     tail[r] = 128;
     let f = e + 8;
-    put_bits(&mut tail[e..f], n);
+    tail[e..f].copy_from_slice(&bits(n));
     blocks(&tail, f / 64, s)
 }
 

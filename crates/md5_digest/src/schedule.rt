@@ -1,5 +1,5 @@
-// What the operations of MD5 (RFC 1321) go by: the table T and the shifts, the word of a block that each takes; and where a message's length goes.
-ghost use Rattle.std.specs.Prelude.{◌≡◌, ◌+◌, ◌*◌, ◌%◌};
+// What the operations of MD5 (RFC 1321) go by: the table T and the shifts; and where a message's length goes.
+ghost use Rattle.std.specs.Prelude.{◌≡◌};
 ghost use Rattle.md5_digest.specs.Schedule.{sines, shifts, length_at};
 
 const SINES: [u32; 64] = [
@@ -20,6 +20,7 @@ const SHIFTS: [u32; 64] = [
 ];
 
 // The table T.
+#[tactic(auto, unfolding(crate::specs::Schedule::sines))]
 pub fn sines() -> [u32; 64]
     ensures { result ≡ sines }
 {
@@ -27,29 +28,11 @@ pub fn sines() -> [u32; 64]
 }
 
 // The shifts of the operations.
+#[tactic(auto, unfolding(crate::specs::Schedule::shifts))]
 pub fn shifts() -> [u32; 64]
     ensures { result ≡ shifts }
 {
     SHIFTS
-}
-
-// The word that operation i takes in the second, third and fourth round; in the first it is i.
-pub fn word_g(i: u8) -> usize
-    ensures { result ≡ (5 * i + 1) % 16 }
-{
-    (5 * (i as usize) + 1) % 16
-}
-
-pub fn word_h(i: u8) -> usize
-    ensures { result ≡ (3 * i + 5) % 16 }
-{
-    (3 * (i as usize) + 5) % 16
-}
-
-pub fn word_i(i: u8) -> usize
-    ensures { result ≡ 7 * i % 16 }
-{
-    7 * (i as usize) % 16
 }
 
 // Where the length of a message of n bytes stands after its whole blocks: in the last part's block, or where it has no room in one more.

@@ -3,6 +3,17 @@
 
 use std::io;
 
+// the strings of the test suite
+const SUITE: [&[u8]; 7] = [
+    b"",
+    b"a",
+    b"abc",
+    b"message digest",
+    b"abcdefghijklmnopqrstuvwxyz",
+    b"ABCDEFGHIJKLMNOPQRSTUVWXYZabcdefghijklmnopqrstuvwxyz0123456789",
+    b"12345678901234567890123456789012345678901234567890123456789012345678901234567890",
+];
+
 // A word's four bytes in hexadecimal, the lowest first.
 fn print_word(rt: &impl Print, word: u32) -> io::Result<()> {
     for byte in word.to_le_bytes() {
@@ -16,26 +27,16 @@ fn print_line(rt: &impl Print, text: &[u8]) -> io::Result<()> {
     rt.write_all(b"MD5 (\"")?;
     rt.write_all(text)?;
     rt.write_all(b"\") = ")?;
-    print_word(rt, digest.a)?;
-    print_word(rt, digest.b)?;
-    print_word(rt, digest.c)?;
-    print_word(rt, digest.d)?;
+    for word in [digest.a, digest.b, digest.c, digest.d] {
+        print_word(rt, word)?;
+    }
     rt.write_all(b"\n")
 }
 
 fn main(rt: HostRuntime) -> io::Result<()> {
     rt.write_all(b"MD5 test suite:\n")?;
-    print_line(&rt, b"")?;
-    print_line(&rt, b"a")?;
-    print_line(&rt, b"abc")?;
-    print_line(&rt, b"message digest")?;
-    print_line(&rt, b"abcdefghijklmnopqrstuvwxyz")?;
-    print_line(
-        &rt,
-        b"ABCDEFGHIJKLMNOPQRSTUVWXYZabcdefghijklmnopqrstuvwxyz0123456789",
-    )?;
-    print_line(
-        &rt,
-        b"12345678901234567890123456789012345678901234567890123456789012345678901234567890",
-    )
+    for text in SUITE {
+        print_line(&rt, text)?;
+    }
+    Ok(())
 }

@@ -20,11 +20,12 @@ pub fn mark(map: &mut [u8], k: usize)
 {
     let at = k / 8;
     if at < map.len() {
-        map[at] = map[at] | (128 >> (k % 8));
+        map[at] |= 128 >> (k % 8);
     }
 }
 
 // Takes every mark away.
+#[tactic(auto, unfolding(crate::specs::Bitmap::unmarked))]
 pub fn clear(map: &mut [u8])
     ensures { map.new ≡ unmarked (length map.old) }
 {

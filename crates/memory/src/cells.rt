@@ -3,18 +3,12 @@ ghost use Rattle.std.specs.Prelude.{◌≡◌, ◌/◌, ◌%◌, ◌<◌, get_or
 ghost use Rattle.memory.specs.Bitmap.{with_mark};
 ghost use Rattle.memory.specs.Cells.{touches_in, left_in};
 
-fn wide(x: u8) -> usize
-    ensures { result ≡ x }
-{
-    x as usize
-}
-
 // How far from its cell's start a range starts; past the map's end at it.
 fn offset_of(offsets: &[u8], cell: usize) -> usize
     ensures { result ≡ get_or offsets.now cell 0 }
 {
     if cell < offsets.len() {
-        wide(offsets[cell])
+        usize::from(offsets[cell])
     } else {
         0
     }

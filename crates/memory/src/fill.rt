@@ -3,12 +3,9 @@ ghost use Rattle.std.specs.Prelude.{◌≡◌, length};
 ghost use Rattle.memory.specs.Many.{many};
 
 // Sets every byte to v.
+#[tactic(auto, unfolding(crate::specs::Many::many))]
 pub fn fill(bytes: &mut [u8], v: u8)
     ensures { bytes.new ≡ many (length bytes.old) v }
 {
-    let mut i = 0;
-    while i < bytes.len() {
-        bytes[i] = v;
-        i += 1;
-    }
+    bytes.fill(v);
 }

@@ -27,6 +27,7 @@ impl Flash {
 }
 
 // May a flash have this length?
+#[tactic(auto, unfolding(crate::specs::Flash::flash_length))]
 pub fn right_length(len: usize) -> bool
     ensures { result ≡ flash_length len }
 {

@@ -1,8 +1,9 @@
 -- What the calls for parts answer and leave. Assumes nothing.
-use Rattle.std.specs.Prelude.{ℕ, cond, List, eqb, length}
+use Rattle.std.specs.Prelude.{ℕ, cond, List, Result, Ok, Err, eqb, length}
 use Rattle.trace_layout.specs.Reports.{report_from}
 use Rattle.trace_parts.specs.declared.Part.{Part}
-use Rattle.trace_parts.specs.Merging.{MergeOutcome, outcome_number, one_of, merge_of}
+use Rattle.trace_counts.specs.declared.ReportError.{ReportError}
+use Rattle.trace_parts.specs.Merging.{merge_number, one_of, merge_of}
 use Rattle.partapi.specs.Parts.{part_from, part_written}
 
 -- what is returned, and what the part's bytes hold
@@ -15,12 +16,13 @@ abbrev pub part_call : ℕ → List ℕ → PartCall
 part_call n b = record { result = n; part = b }
 
 -- a refusal leaves the bytes
-unfoldable pub kept_part : List ℕ → ℕ → Part → List ℕ
-kept_part b n p = cond (eqb n 0) (part_written b p) b
+unfoldable pub kept_part : List ℕ → Result Part ReportError → List ℕ
+kept_part b (Ok p) = part_written b p
+kept_part b (Err e) = b
 
 -- what is told of an outcome
-unfoldable pub told_of : List ℕ → MergeOutcome → PartCall
-told_of b o = part_call (outcome_number o) (kept_part b (outcome_number o) o.part)
+unfoldable pub told_of : List ℕ → Result Part ReportError → PartCall
+told_of b o = part_call (merge_number o) (kept_part b o)
 
 -- the part of one trace: 71 too where the part has not 96 bytes
 unfoldable pub one_call : List ℕ → ℕ → List ℕ → PartCall

@@ -5,45 +5,29 @@
 pub mod parts;
 
 ghost use Rattle.std.specs.Prelude.{◌≡◌};
-ghost use Rattle.trace_parts.specs.Merging.{merge_number, merge_return};
-ghost use Rattle.partapi.specs.PartCalls.{part_call, kept_part, told_of, one_call, merge_call};
+ghost use Rattle.partapi.specs.PartCalls.{part_call, told_of, one_call, merge_call};
 
-use trace_parts::{Merge, MergeAnswer, Part};
+use crate::parts::PART;
+use trace_counts::ReportError;
+use trace_parts::Part;
 
-// The bytes of a part.
-const PART: usize = 96;
-
-fn number(answer: MergeAnswer) -> u32
-    ensures { result ≡ merge_number answer }
+// The number of what was made, and the next part written where there is one: a refusal leaves the bytes.
+#[tactic(auto, unfolding(crate::specs::PartCalls::told_of, crate::specs::PartCalls::kept_part))]
+fn tell(made: Result<Part, ReportError>, part: &mut [u8]) -> u32
+    ensures { part_call result part.new ≡ told_of part.old made }
 {
-    match answer {
-        MergeAnswer::BadReport => 71,
-        MergeAnswer::TooMany => 70,
-        MergeAnswer::Merged => 0,
+    match made {
+        Ok(next) => {
+            crate::parts::write_part(part, next);
+            0
+        }
+        Err(error) => u32::from(error.number()),
     }
-}
-
-// The next part, where the answer's number is none of a refusal.
-fn keep(part: &mut [u8], number: u32, next: Part)
-    ensures { part.new ≡ kept_part part.old number next }
-{
-    if number == 0 {
-        crate::parts::write_part(part, next);
-    }
-}
-
-fn tell(made: Merge, part: &mut [u8]) -> u32
-    ensures { part_call result part.new ≡ told_of part.old (merge_return made) }
-{
-    let answer = made.answer;
-    let n = number(answer);
-    let next = made.part;
-    keep(part, n, next);
-    n
 }
 
 // The part of one trace, in `part`: `report` as one call for figures left it that was handed a fresh one, and `stop` as it returned. 0, or 71, and
 // `part` stays.
+#[tactic(auto, unfolding(crate::specs::PartCalls::one_call))]
 #[unsafe(no_mangle)]
 pub extern "C" fn uf2_part_one(report: &[u8], stop: u32, part: &mut [u8]) -> u32
     ensures { part_call result part.new ≡ one_call report.now stop part.old }
@@ -56,6 +40,7 @@ pub extern "C" fn uf2_part_one(report: &[u8], stop: u32, part: &mut [u8]) -> u32
 }
 
 // A part and a later one as one, in `part`: 0; or 71, and then 70, and `part` stays.
+#[tactic(auto, unfolding(crate::specs::PartCalls::merge_call))]
 #[unsafe(no_mangle)]
 pub extern "C" fn uf2_part_merge(part: &mut [u8], later: &[u8]) -> u32
     ensures { part_call result part.new ≡ merge_call part.old later.now }

@@ -2,37 +2,32 @@
 ghost use Rattle.std.specs.Prelude.{◌≡◌};
 ghost use Rattle.partapi.specs.Parts.{no_part, part_from, part_written};
 
+use trace_layout::reports::REPORT;
 use trace_parts::Part;
 
 // The bytes of a part: those of a report, and three words.
-const PART: usize = 96;
-
-const REPORT: usize = 84;
+pub const PART: usize = 96;
 
 // Bytes of another length, which are refused: they are no report.
 fn no_part() -> Part
     ensures { result ≡ no_part }
 {
-    let none: [u8; 0] = [];
-    let report = trace_layout::reports::read_report(&none);
     Part {
-        report,
-        traces: 0,
-        bad: 0,
-        differs: 0,
+        report: trace_layout::reports::read_report(&[]),
+        ..Part::new()
     }
 }
 
 // The part that bytes are.
+#[tactic(auto, unfolding(crate::specs::Parts::part_from))]
 pub fn read_part(bytes: &[u8]) -> Part
     ensures { result ≡ part_from bytes.now }
 {
     if bytes.len() != PART {
         return no_part();
     }
-    let report = trace_layout::reports::read_report(&bytes[0..REPORT]);
     Part {
-        report,
+        report: trace_layout::reports::read_report(&bytes[0..REPORT]),
         traces: uf2_block::field(bytes, 84),
         bad: uf2_block::field(bytes, 88),
         differs: uf2_block::field(bytes, 92),
@@ -46,8 +41,7 @@ pub fn write_part(bytes: &mut [u8], part: Part)
     if bytes.len() != PART {
         return;
     }
-    let report = part.report;
-    trace_layout::reports::write_report(&mut bytes[0..REPORT], report);
+    trace_layout::reports::write_report(&mut bytes[0..REPORT], part.report);
     uf2_block::put(bytes, 84, part.traces);
     uf2_block::put(bytes, 88, part.bad);
     uf2_block::put(bytes, 92, part.differs);

@@ -3,3 +3,4 @@ pub mod Overlap
 pub mod Laws
 pub mod Tables
 pub mod Alike
+pub mod Numbers

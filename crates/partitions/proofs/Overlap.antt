@@ -2,7 +2,7 @@
 use Prim.Native.Nat.{ℕ, ◌+◌, ◌≤◌, ◌<◌}
 use mathlib.Core.Path.{◌≡◌}
 use mathlib.Core.Logic.{◌↔◌, ◌≢◌}
-use mathlib.Core.Bool.{true, false, ◌&&◌, not, and-true, and-false}
+use mathlib.Core.Bool.{true, false, ◌&&◌, not, and-false}
 use mathlib.Core.List.{List}
 use native.Mathlib.Omega.{arith}
 use lib.Dec.{ltb, eqb}
@@ -28,13 +28,6 @@ module _ (f n g m : ℕ) where
   pub overlap_after : f + n ≤ g → overlap f n g m ≡ false
   unfolding overlap
   overlap_after h = let z = le-ltb g (f + n) h in simp (z, and-false (ltb 0 n && ltb 0 m && ltb f (g + m)))
-
-  pub overlap_rest : f < g + m → g < f + n → overlap f n g m ≡ ltb 0 n && ltb 0 m
-  unfolding overlap
-  overlap_rest p q =
-      let y = lt-ltb f (g + m) p in
-      let z = lt-ltb g (f + n) q in
-      simp (y, z, and-true (ltb 0 n && ltb 0 m))
 
   pub overlap_tells : overlap f n g m ≡ true → (0 < n) × (0 < m) × (f < g + m) × (g < f + n)
   unfolding overlap

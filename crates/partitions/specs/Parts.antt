@@ -1,8 +1,12 @@
 -- The definition of bad settings, cut as the code checks it. Assumes nothing.
-use Rattle.std.specs.Prelude.{ℕ, Bool, ◌||◌, List}
+use Rattle.std.specs.Prelude.{ℕ, Bool, ◌&&◌, ◌||◌, List, ltb, get_or}
 use Rattle.laws.specs.Sets.{any}
 use Rattle.partitions.specs.declared.Entry.{Entry}
 use Rattle.partitions.specs.Settings.{entry_at, no_sectors, runs_past, overlap_at, links_up, links_to_b, many_users, reserved_user}
+
+-- user family k of the entry, of at most 4, meets p
+abbrev pub user_meets : (ℕ → Bool) → Entry → ℕ → Bool
+user_meets p e k = ltb k e.user_count && p (get_or e.users k 0)
 
 -- what is wrong with an entry by itself
 unfoldable pub alone_bad : ℕ → Entry → Bool

@@ -41,6 +41,21 @@ link_is_none Unlinked = true
 link_is_none (OwnedBy k) = false
 link_is_none (BOf k) = false
 
+-- "current (1 is RISC-V)" (02, L5)
+abbrev pub arch_number : Arch → ℕ
+arch_number Arm = 0
+arch_number RiscV = 1
+
+abbrev pub arch_from : Bool → Arch
+arch_from true = RiscV
+arch_from false = Arm
+
+-- "link kind 2 (none, owned, B)" (02, L5)
+abbrev pub link_kind : Link → ℕ
+link_kind Unlinked = 0
+link_kind (OwnedBy k) = 1
+link_kind (BOf k) = 2
+
 -- the index that a link names; 0 where it names none, which no test looks at
 abbrev pub link_target : Link → ℕ
 link_target Unlinked = 0

@@ -4,9 +4,10 @@
 pub mod sectors;
 pub mod validity;
 
-ghost use Rattle.std.specs.Prelude.{◌≡◌};
-ghost use Rattle.partitions.specs.Settings.{is_a, is_unowned, link_target, has_user, accepts, is_reserved, reserved_user, enabled, blank_entry, arm_only};
-ghost use Rattle.partitions.specs.Parts.{alone_bad};
+ghost use Rattle.std.specs.Prelude.{◌≡◌, ◌<◌, ℕ, Bool};
+ghost use Rattle.laws.specs.Sets.{any};
+ghost use Rattle.partitions.specs.Settings.{is_a, is_unowned, link_kind, link_target, arch_from, has_user, accepts, is_reserved, reserved_user, enabled, blank_entry, arm_only};
+ghost use Rattle.partitions.specs.Parts.{alone_bad, user_meets};
 
 use memory::flash::Flash;
 
@@ -18,7 +19,7 @@ pub enum Link {
     BOf(u8),
 }
 
-#[derive(Clone, Copy)]
+#[derive(Clone, Copy, PartialEq, Eq)]
 pub enum Arch {
     Arm,
     RiscV,
@@ -51,6 +52,39 @@ pub struct Settings {
     pub auto_switch: bool,
     pub absolute: bool,
     pub count: u8,
+}
+
+// The architecture by whether it is RISC-V.
+impl From<bool> for Arch {
+    ghost from_gives = { λ x y. y ≡ arch_from x };
+
+    fn from(riscv: bool) -> Arch {
+        if riscv { Arch::RiscV } else { Arch::Arm }
+    }
+}
+
+impl Link {
+    // 0 for none, 1 for "owned by", 2 for "B of".
+    pub fn kind(self) -> u8
+        ensures value { result ≡ link_kind self }
+        ensures low { result < 3 }
+    {
+        match self {
+            Link::Unlinked => 0,
+            Link::OwnedBy(_) => 1,
+            Link::BOf(_) => 2,
+        }
+    }
+
+    // The index that it names, 0 where it names none.
+    pub fn index(self) -> u8
+        ensures { result ≡ link_target self }
+    {
+        match self {
+            Link::Unlinked => 0,
+            Link::OwnedBy(k) | Link::BOf(k) => k,
+        }
+    }
 }
 
 impl Entry {
@@ -126,39 +160,39 @@ impl Family {
 pub fn is_a(e: Entry) -> bool
     ensures { result ≡ is_a e }
 {
-    let link = e.link;
-    match link {
-        Link::Unlinked => true,
-        Link::OwnedBy(_) => true,
-        Link::BOf(_) => false,
-    }
+    !matches!(e.link, Link::BOf(_))
 }
 
 // Linked to no other?
 pub fn unowned(e: Entry) -> bool
     ensures { result ≡ is_unowned e }
 {
-    let link = e.link;
-    match link {
-        Link::Unlinked => true,
-        Link::OwnedBy(_) => false,
-        Link::BOf(_) => false,
-    }
+    matches!(e.link, Link::Unlinked)
+}
+
+// Is there a used family, of at most 4, for which the test answers yes?
+#[tactic(auto, unfolding(laws::specs::Sets::any))]
+fn any_user<F: Fn(u32) -> bool>(e: Entry, test: F) -> bool
+    requires { F.IsAlwaysCallable test }
+    ensures { (p : ℕ → Bool) → ((x : ℕ) (r : Bool) → F.post test x r → r ≡ p x) → result ≡ any 4 (user_meets p e) }
+{
+    let n = e.user_count;
+    let users = e.users;
+    ((0 < n) & test(users[0]))
+        | ((1 < n) & test(users[1]))
+        | ((2 < n) & test(users[2]))
+        | ((3 < n) & test(users[3]))
 }
 
 // Is the family one of the entry's user families?
 pub fn has_user(e: Entry, family: u32) -> bool
     ensures { result ≡ has_user e family }
 {
-    let n = e.user_count;
-    let users = e.users;
-    ((0 < n) & (users[0] == family))
-        | ((1 < n) & (users[1] == family))
-        | ((2 < n) & (users[2] == family))
-        | ((3 < n) & (users[3] == family))
+    any_user(e, |f| f == family)
 }
 
 // By the flag for the family, or as a user family.
+#[tactic(auto, unfolding(crate::specs::Settings::accepts))]
 pub fn accepts_family(e: Entry, family: u32) -> bool
     ensures { result ≡ accepts e family }
 {
@@ -178,15 +212,11 @@ pub fn reserved(family: u32) -> bool
 fn reserved_user(e: Entry) -> bool
     ensures { result ≡ reserved_user e }
 {
-    let n = e.user_count;
-    let users = e.users;
-    ((0 < n) & reserved(users[0]))
-        | ((1 < n) & reserved(users[1]))
-        | ((2 < n) & reserved(users[2]))
-        | ((3 < n) & reserved(users[3]))
+    any_user(e, |f| reserved(f))
 }
 
 // Is an entry wrong by itself?
+#[tactic(auto, unfolding(crate::specs::Parts::alone_bad))]
 pub fn alone_bad(e: Entry, flash_len: usize) -> bool
     ensures { result ≡ alone_bad flash_len e }
 {
@@ -198,12 +228,7 @@ pub fn alone_bad(e: Entry, flash_len: usize) -> bool
 pub fn target(e: Entry) -> u8
     ensures { result ≡ link_target e.link }
 {
-    let link = e.link;
-    match link {
-        Link::Unlinked => 0,
-        Link::OwnedBy(k) => k,
-        Link::BOf(k) => k,
-    }
+    e.link.index()
 }
 
 pub fn is_enabled(settings: Settings, arch: Arch) -> bool

@@ -3,6 +3,7 @@ ghost use Rattle.std.specs.Prelude.{◌≡◌};
 ghost use Rattle.partitions.specs.Settings.{overlap};
 
 // Have n sectors from f and m sectors from g one in common? In usize no sum wraps.
+#[tactic(auto, unfolding(crate::specs::Settings::overlap))]
 pub fn sectors_overlap(f: u32, n: u32, g: u32, m: u32) -> bool
     ensures { result ≡ overlap f n g m }
 {
@@ -10,11 +11,5 @@ pub fn sectors_overlap(f: u32, n: u32, g: u32, m: u32) -> bool
     let to = from + n as usize;
     let other = g as usize;
     let other_to = other + m as usize;
-    if other_to <= from {
-        return false;
-    }
-    if to <= other {
-        return false;
-    }
-    (0 < n) & (0 < m)
+    (0 < n) & (0 < m) & (from < other_to) & (other < to)
 }

@@ -11,18 +11,14 @@ fn any_shares(table: [Entry; Settings::ENTRIES], count: usize) -> bool
     requires { count ≤ 16 }
     ensures { result ≡ any count (shares_below table) }
 {
-    let mut k: usize = 0;
-    while k < count {
+    for k in 0..count {
         let first = table[k].first;
         let sectors = table[k].sectors;
-        let mut j: usize = 0;
-        while j < k {
+        for j in 0..k {
             if crate::sectors::sectors_overlap(first, sectors, table[j].first, table[j].sectors) {
                 return true;
             }
-            j += 1;
         }
-        k += 1;
     }
     false
 }
@@ -34,27 +30,24 @@ fn any_bad(table: [Entry; Settings::ENTRIES], count: usize, flash_len: usize) ->
 {
     let mut rising = true;
     let mut past: usize = 0;
-    let mut k: usize = 0;
-    while k < count {
+    for k in 0..count {
         let e = table[k];
-        let next = k + 1;
         let first = e.first as usize;
         rising = rising & (past <= first);
         past = first + e.sectors as usize;
         if crate::alone_bad(e, flash_len) {
             return true;
         }
-        if !crate::unowned(e) {
-            let j = crate::target(e) as usize;
-            if k <= j {
-                return true;
-            }
-            let o = table[j];
-            if !crate::is_a(o) {
-                return true;
-            }
+        if crate::unowned(e) {
+            continue;
         }
-        k = next;
+        let j = crate::target(e) as usize;
+        if k <= j {
+            return true;
+        }
+        if !crate::is_a(table[j]) {
+            return true;
+        }
     }
     if rising {
         return false;

@@ -4,6 +4,7 @@ use mathlib.Core.Path.{◌≡◌, refl, ap, ◌∙◌}
 use mathlib.Core.List.{List}
 use native.Mathlib.Nat.{le_refl, le_step}
 use native.Mathlib.Omega.{arith}
+use Rattle.std.specs.Prelude.{Some, None}
 use Rattle.laws.proofs.Laws.{any_cong}
 use Rattle.partitions.specs.declared.Arch.{Arch}
 use Rattle.partitions.specs.declared.Arch.TheVariants.{Arm, RiscV}
@@ -12,11 +13,9 @@ use Rattle.partitions.specs.declared.Settings.{Settings}
 use Rattle.partitions.specs.Settings.{entry_at}
 use Rattle.partitions.specs.Alike.{AlikeEntry, Alike}
 use Rattle.partitions.proofs.Alike.{user_alike, accepts_alike, enabled_alike, alike_good}
-use Rattle.placement.specs.Place.{pass_query_of, pass_allows, pass_takes, first_of, entry_if, in_pass, chosen, used_count, chosen_entry, place_of_choice, place_of, user_of, ram_family, ask_of, AlikePlaces}
+use Rattle.placement.specs.Place.{pass_query_of, pass_allows, pass_takes, first_of, entry_if, in_pass, chosen, used_count, chosen_entry, place_of_choice, place_of, user_of, ram_family, ask_of, AlikePlaces, Choice}
 use Rattle.placement.specs.Passes.{other_arch, is_marked}
 use Rattle.placement.specs.declared.passes.PassQuery.{PassQuery}
-use Rattle.placement.specs.declared.Choice.{Choice}
-use Rattle.placement.specs.declared.Choice.TheVariants.{Nothing, Entry}
 use Rattle.placement.proofs.Laws.{used_least}
 use Rattle.placement.proofs.Theorems.{chosen_accepts}
 
@@ -66,8 +65,8 @@ module _ (s t : Settings) (h : Alike s t) where
       chosen_alike s.table t.table (used_count s.count) looked (pass_query_of s f) ∙ rw (query_alike f, h.count)
 
   choice_alike : (f : ℕ) (c : Choice) → chosen_entry s f ≡ c → place_of_choice s.table c ≡ place_of_choice t.table c
-  choice_alike f Nothing e = refl
-  choice_alike f (Entry k) e =
+  choice_alike f None e = refl
+  choice_alike f (Some k) e =
       let at = h.entries k (chosen_accepts s f e).0 in
       rw (at.first, at.sectors)
 

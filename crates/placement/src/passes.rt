@@ -49,6 +49,7 @@ fn bootable(e: Entry, a: Arch) -> bool
 }
 
 // What a pass asks besides; 01's passes 1 to 4 are counted from 0.
+// Kept, contract: `pass_allows` counts the passes, and so does this.
 fn allows(w: PassQuery, pass: usize, e: Entry) -> bool
     ensures { result ≡ pass_allows w pass e }
 {
@@ -76,12 +77,7 @@ pub fn takes(w: PassQuery, pass: usize, e: Entry) -> bool
 pub fn used_count(count: u8) -> usize
     ensures { result ≡ used_count count }
 {
-    let n = count as usize;
-    if n <= Settings::ENTRIES {
-        n
-    } else {
-        Settings::ENTRIES
-    }
+    (count as usize).min(Settings::ENTRIES)
 }
 
 // What the passes have to know, of a family.

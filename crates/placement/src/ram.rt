@@ -14,13 +14,10 @@ pub fn ram_family(settings: Settings, family: u32) -> bool
     let n = crate::passes::used_count(settings.count);
     // copied only where it is looked at
     let table = settings.table;
-    let mut i: usize = 0;
-    while i < n {
-        let e = table[i];
-        if partitions::has_user(e, family) {
+    for i in 0..n {
+        if partitions::has_user(table[i], family) {
             return true;
         }
-        i += 1;
     }
     false
 }

@@ -2,22 +2,18 @@
 // alone, absolute allowed.
 #![tactic(auto)]
 
-ghost use Rattle.std.specs.Prelude.{IfOk, IsFalse};
+ghost use Rattle.std.specs.Prelude.{◌≡◌, IfOk};
+ghost use Rattle.std.specs.declared.ops.ControlFlow.TheVariants.{Break};
 ghost use Rattle.std.specs.Io.KnownBytes.{IsAtEnd};
+ghost use Rattle.transfer.specs.declared.Transfer.{Transfer};
 
 use partitions::Settings;
 use std::io;
 use std::io::Read;
+use std::ops::ControlFlow;
 use transfer::Transfer;
 use uf2_block::Block;
 use uf2_commit::receipts::Receipt;
-
-// How far the program is after a piece: the transfer, and whether the input may hold more.
-#[derive(Clone, Copy)]
-struct Progress {
-    transfer: Transfer,
-    more: bool,
-}
 
 fn print_answer(rt: &impl Print, index: u64, answer: u8, discarded: bool) -> io::Result<()> {
     let mut text = [0u8; 80];
@@ -25,14 +21,15 @@ fn print_answer(rt: &impl Print, index: u64, answer: u8, discarded: bool) -> io:
     rt.write_all(&text[..n])
 }
 
+// Kept, no plainer: hexlines has one of this shape for a reader; one for both would take the line and its length as parameters.
 fn print_state(rt: &impl Print, transfer: Transfer) -> io::Result<()> {
     let mut text = [0u8; 80];
     let n = text::lines::state_line(&mut text, transfer);
     rt.write_all(&text[..n])
 }
 
-// Reads one piece and answers it. A short piece is answered as an arrival of a wrong length, and is the last: `read_full` stops short only
-// where the input ends.
+// Reads one piece and answers it, and goes on with the next transfer or ends with the last one. A short piece is answered as an arrival of a wrong
+// length, and is the last: `read_full` stops short only where the input ends.
 fn answer_piece<R: Read>(
     rt: &impl Print,
     from: &mut R,
@@ -42,18 +39,15 @@ fn answer_piece<R: Read>(
     flash: &mut [u8],
     seen: &mut [u8],
     sectors: &mut [u8],
-) -> io::Result<Progress>
-    ensures { IfOk result (λ progress. IsFalse progress.more → IsAtEnd (R.remaining from.new)) }
+) -> io::Result<ControlFlow<Transfer, Transfer>>
+    ensures { IfOk result (λ flow. (last : Transfer) → flow ≡ Break last → IsAtEnd (R.remaining from.new)) }
 {
     let mut main_ram = [0u8; 0];
     let mut xip_ram = [0u8; 0];
     let mut arrival = [0u8; Block::ARRIVAL];
     let n = reading::read_full(from, &mut arrival)?;
     if n == 0 {
-        return Ok(Progress {
-            transfer,
-            more: false,
-        });
+        return Ok(ControlFlow::Break(transfer));
     }
     let received = uf2_receiver::take(
         settings,
@@ -65,13 +59,11 @@ fn answer_piece<R: Read>(
         &mut main_ram,
         &mut xip_ram,
     );
-    let answer = received.answer;
-    let next = received.transfer;
-    print_answer(rt, index, answer.number(), received.discarded)?;
-    Ok(Progress {
-        transfer: next,
-        more: n == Block::ARRIVAL,
-    })
+    print_answer(rt, index, received.answer.number(), received.discarded)?;
+    if n < Block::ARRIVAL {
+        return Ok(ControlFlow::Break(received.transfer));
+    }
+    Ok(ControlFlow::Continue(received.transfer))
 }
 
 // Answers every piece of the input. The loop has a bound so that its end can be proved: after 2 ^ 64 - 1 pieces, more than any input has,
@@ -86,10 +78,9 @@ fn run<R: Read>(
     let settings = Settings::arm_only(true);
     let mut transfer = Transfer::new();
     for index in 0..u64::MAX {
-        let progress = answer_piece(rt, from, settings, transfer, index, flash, seen, sectors)?;
-        transfer = progress.transfer;
-        if !progress.more {
-            break;
+        match answer_piece(rt, from, settings, transfer, index, flash, seen, sectors)? {
+            ControlFlow::Continue(next) => transfer = next,
+            ControlFlow::Break(last) => return Ok(last),
         }
     }
     Ok(transfer)

@@ -1,26 +1,23 @@
 -- A file that the first check found to name regions: its place and its buffers, and the answer as it is cut. Assumes nothing.
-use Prim.Native.Nat.{ℕ, zero, suc, ◌+◌, ◌-◌, ◌*◌, ◌/◌, ◌%◌, ◌<◌, ◌≤◌}
+use Prim.Native.Nat.{ℕ, ◌<◌, ◌≤◌}
+use Rattle.std.specs.Prelude.{Result, Ok, Err, ⊤}
 use mathlib.Core.Path.{◌≡◌, refl, sym, ap, subst, ◌∙◌}
-use mathlib.Core.Logic.{◌≢◌}
 use mathlib.Core.Bool.{Bool, true, false, cond, not, ◌&&◌}
 use mathlib.Core.List.{List}
 use native.Mathlib.Omega.{arith}
 use lib.Dec.{eqb}
 use lib.ListN.{length, take, drop}
-use borrow.Author.Tests.{eq-eqb, ne_eqb, eqb-true, not-true, not-false}
-use Rattle.laws.specs.Sets.{Set, any, least}
+use borrow.Author.Tests.{eqb-true, not-false}
+use Rattle.std.specs.Prelude.{Some}
+use Rattle.laws.specs.Sets.{any}
 use Rattle.laws.proofs.Tests.{split, clash, and_left, and_right}
 use Rattle.laws.proofs.Laws.{any_found, any_cong}
 use Rattle.memory.proofs.fill.Laws.{length_many}
 use Rattle.memory.specs.Bitmap.{unmarked}
 use Rattle.memory.proofs.flash.Laws.{length_right}
 use Rattle.uf2_block.specs.Block.{field_at, has_flag}
-use Rattle.uf2_block.specs.Region.{region_of}
-use Rattle.uf2_block.specs.Regions.{good_region}
 use Rattle.partitions.specs.declared.Settings.{Settings}
-use Rattle.placement.specs.Place.{place_of}
-use Rattle.placement.specs.declared.Place.{Place}
-use Rattle.placement.specs.declared.Place.TheVariants.{At}
+use Rattle.placement.specs.Place.{place_of, place_from}
 use Rattle.transfer.specs.Transfer.{same_kind}
 use Rattle.transfer.specs.declared.Kind.TheVariants.{Flash}
 use Rattle.uf2_checks.specs.Screen.{rooms_of}
@@ -29,37 +26,36 @@ use Rattle.uf2_checks.specs.declared.Rooms.{Rooms}
 use Rattle.arrival.specs.Arrive.{right_lengths}
 use Rattle.arrival.proofs.Heads.{kind_same}
 use Rattle.arrival_claims.proofs.DecisionFacts.{right_true}
-use Rattle.demand.specs.Demand.{File, size_of}
+use Rattle.demand.specs.Demand.{size_of}
 use Rattle.demand.proofs.Files.{Located, located}
-use Rattle.file_check.specs.declared.Checked.{Checked}
-use Rattle.file_check.specs.declared.Checked.TheVariants.{BadBuffers, BadSettings, Ragged, Empty, Refused, OtherFamily, OtherTotal, OtherKind, SameNumber, Overlap, Missing, Guarded, Valid}
-use Rattle.file_check.specs.Check.{piece_at, pieces_in, field_in, is_page, family_in, kind_in, is_sound, guards_in, is_guarding, right_maps, check_of}
+use Rattle.file_check.specs.declared.FileFault.TheVariants.{BadBuffers, BadSettings, Ragged, Empty, Refused, OtherFamily, OtherTotal, OtherKind, SameNumber, Overlap, Missing, Guarded}
+use Rattle.file_check.specs.Check.{Checked, piece_at, pieces_in, is_page, family_in, kind_in, is_sound, guards_in, is_guarding, right_maps, check_of}
 use Rattle.file_check.specs.Valid.{file_of, answer_to}
-use Rattle.file_check.specs.Faults.{Opens, Told, AnswersAreTrue}
+use Rattle.file_check.specs.Faults.{Told, AnswersAreTrue}
 use Rattle.file_check.proofs.Sound.{Sound, sound, valid, answer_is}
 use Rattle.file_check.proofs.Theorems.{empty, empty_start}
 use Rattle.file_check.proofs.Faults.{answers_are_true}
 use Rattle.file_check.specs.Regions.{region_fault, is_right, is_wrong, regions_of, names_regions, after_check, check_regions_of}
 use Rattle.file_check.specs.declared.fileregions.RegionsChecked.{RegionsChecked}
-use Rattle.file_check.specs.declared.fileregions.RegionsChecked.TheVariants.{As, Right}
+use Rattle.file_check.specs.declared.fileregions.RegionFault.{RegionFault}
 use Rattle.region_checking.specs.Parts.{names_in, names_at, wrong_at, regions_by, Roomy, Opened}
-use Rattle.region_checking.proofs.Laws.{part_is, least_cong}
+use Rattle.file_check.proofs.First.{least_cong}
 
 -- an answer that names regions
-guarded_of : (x : Checked) → names_regions x ≡ true → (i : ℕ) × (x ≡ Guarded i)
-guarded_of (Guarded i) e = (i, refl)
-guarded_of Valid e = clash false e refl
-guarded_of BadBuffers e = clash false e refl
-guarded_of BadSettings e = clash false e refl
-guarded_of Ragged e = clash false e refl
-guarded_of Empty e = clash false e refl
-guarded_of (Refused i x) e = clash false e refl
-guarded_of (OtherFamily i) e = clash false e refl
-guarded_of (OtherTotal i) e = clash false e refl
-guarded_of (OtherKind i) e = clash false e refl
-guarded_of (SameNumber i j) e = clash false e refl
-guarded_of (Overlap i j) e = clash false e refl
-guarded_of (Missing k) e = clash false e refl
+guarded_of : (x : Checked) → names_regions x ≡ true → (i : ℕ) × (x ≡ Err (Guarded i))
+guarded_of (Err (Guarded i)) e = (i, refl)
+guarded_of (Ok u) e = clash false e refl
+guarded_of (Err BadBuffers) e = clash false e refl
+guarded_of (Err BadSettings) e = clash false e refl
+guarded_of (Err Ragged) e = clash false e refl
+guarded_of (Err Empty) e = clash false e refl
+guarded_of (Err (Refused i x)) e = clash false e refl
+guarded_of (Err (OtherFamily i)) e = clash false e refl
+guarded_of (Err (OtherTotal i)) e = clash false e refl
+guarded_of (Err (OtherKind i)) e = clash false e refl
+guarded_of (Err (SameNumber i j)) e = clash false e refl
+guarded_of (Err (Overlap i j)) e = clash false e refl
+guarded_of (Err (Missing k)) e = clash false e refl
 
 module _ (s : Settings) (n : Lengths) (f : List ℕ) (yes : names_regions (answer_to s n f) ≡ true) where
   ok : Sound s n f
@@ -73,7 +69,7 @@ module _ (s : Settings) (n : Lengths) (f : List ℕ) (yes : names_regions (answe
       split (any (pieces_in f) (is_guarding s n f))
       (λ y. y)
       (λ z.
-      let e : answer_to s n f ≡ Valid = answer_is s n f ok ∙ rw z in
+      let e : answer_to s n f ≡ Ok tt = answer_is s n f ok ∙ rw z in
       clash (names_regions (answer_to s n f)) yes (ap names_regions e))
 
   flat : same_kind (kind_in n f) Flash ≡ true
@@ -87,7 +83,7 @@ module _ (s : Settings) (n : Lengths) (f : List ℕ) (yes : names_regions (answe
   L : Located s (empty n) (file_of n f)
   L = located s (empty n) (file_of n f) refl (valid s n f ok (empty n) (empty_start n)) (kind_same _ _ flat)
 
-  place_is : place_of s n.flash (family_in f) ≡ At L.start L.size
+  place_is : place_of s n.flash (family_in f) ≡ Some (place_from L.start L.size)
   place_is = ap (λ (x : ℕ). place_of s x (family_in f)) (sym (length_many n.flash 0)) ∙ L.place
 
   names_same : (i : ℕ) → is_guarding s n f i ≡ names_at L.size f i
@@ -100,13 +96,13 @@ module _ (s : Settings) (n : Lengths) (f : List ℕ) (yes : names_regions (answe
     unfolding piece_at
     size_is = e ∙ ap (λ (x : Rooms). size_of x.flash) r ∙ ap (λ (x : ℕ). size_of (place_of s n.flash x)) g ∙ ap size_of place_is
 
-    pub regions_is : {x : RegionsChecked} → x ≡ regions_by k f → x ≡ regions_of s n f
+    pub regions_is : {x : Result ⊤ RegionFault} → x ≡ regions_by k f → x ≡ regions_of s n f
     unfolding regions_by regions_of
     regions_is q =
         let h : (j : ℕ) → j < pieces_in f → wrong_at L.size f j ≡ is_wrong s n f j = λ j l. ap (λ (b : Bool). b && not (is_right (region_fault f j))) (sym (names_same j)) in
         let a = any_cong (pieces_in f) (wrong_at L.size f) (is_wrong s n f) h in
         let b = least_cong (pieces_in f) (wrong_at L.size f) (is_wrong s n f) h in
-        q ∙ ap (λ (y : ℕ). regions_by y f) size_is ∙ (λ t. cond (a t) (region_fault f (b t)) Right)
+        q ∙ ap (λ (y : ℕ). regions_by y f) size_is ∙ (λ t. cond (a t) (region_fault f (b t)) (Ok tt))
 
 pub roomy_is : (s : Settings) (n : Lengths) (f : List ℕ) {a b c : List ℕ} (o : Opened s n f a b c) {k : ℕ} {p : Rooms} {m : ℕ} → k ≡ size_of p.flash → p ≡ rooms_of s n.flash m
     → m ≡ field_at (take 512 (drop 0 f)) 28 → Roomy k b c
@@ -120,26 +116,6 @@ roomy_is s n f o e r g =
 
 -- ---- after the first check
 
-module _ (s : Settings) (n : Lengths) (d : ℕ) (f : List ℕ) (x : Checked) {b : Bool} (e : b ≡ names_regions x) where
-  pub stays : not b ≡ true → As x ≡ after_check s n d f x
-  unfolding after_check
-  stays y = let z : names_regions x ≡ false = sym e ∙ not-true b y in rw z
-
-  module _ (y : not b ≡ false) where
-    pub no_image : d ≢ n.flash → As BadBuffers ≡ after_check s n d f x
-    unfolding after_check
-    no_image h =
-        let z : names_regions x ≡ true = sym e ∙ not-false b y in
-        let q : eqb d n.flash ≡ false = ne_eqb _ _ h in
-        rw (z, q)
-
-    pub by_regions : d ≡ n.flash → {r : RegionsChecked} → r ≡ regions_of s n f → r ≡ after_check s n d f x
-    unfolding after_check
-    by_regions h k =
-        let z : names_regions x ≡ true = sym e ∙ not-false b y in
-        let q : eqb d n.flash ≡ true = eq-eqb _ _ h in
-        k ∙ sym (rw (z, q))
-
 -- the maps had their lengths
 pub opened_is : (s : Settings) (n : Lengths) (f a c o m : List ℕ) {x : Checked} → x ≡ check_of s n (length a) (length c) (length o) f → a ≡ unmarked (length a)
     → {b : Bool} → b ≡ names_regions x → not b ≡ false → length m ≡ n.flash → Opened s n f a c m
@@ -148,7 +124,7 @@ opened_is s n f a c o m {x} q clear {b} e y h =
     let t : names_regions x ≡ true = sym e ∙ not-false b y in
     let g = guarded_of x t in
     let k : Told s n (length a) (length c) (length o) f (check_of s n (length a) (length c) (length o) f) = unfold AnswersAreTrue in answers_are_true s n (length a) (length c) (length o) f in
-    let u : Told s n (length a) (length c) (length o) f (Guarded g.0) = subst (Told s n (length a) (length c) (length o) f) (sym q ∙ g.1) k in
+    let u : Told s n (length a) (length c) (length o) f (Err (Guarded g.0)) = subst (Told s n (length a) (length c) (length o) f) (sym q ∙ g.1) k in
     let r = u.0.lengths in
     let l = and_left (right_lengths 512 n (length a) 1024 && eqb (length c) 16384) (eqb (length o) 2080) r in
     let p1 : length a ≡ 16384 = (right_true 512 n (length a) 1024 (and_left (right_lengths 512 n (length a) 1024) (eqb (length c) 16384) l)).seen in

@@ -1,55 +1,39 @@
 -- The laws of the parts that the code is cut into. Assumes nothing.
-use Prim.Native.Nat.{ℕ, zero, suc, ◌+◌, ◌-◌, ◌*◌, ◌/◌, ◌%◌, ◌<◌, ◌≤◌}
-use mathlib.Core.Path.{◌≡◌, refl, sym, ap, subst, ◌∙◌}
+use Prim.Native.Nat.{ℕ, zero, suc, ◌+◌, ◌/◌, ◌<◌, ◌≤◌}
+use Rattle.std.specs.Prelude.{Option, Some, Result, Ok, Err, ⊤}
+use mathlib.Core.Path.{◌≡◌, refl, sym, ap, ◌∙◌}
 use mathlib.Core.Logic.{◌≢◌}
-use mathlib.Core.Bool.{Bool, true, false, cond, not, ◌&&◌, ◌||◌}
+use mathlib.Core.Bool.{Bool, true, false, not, ◌&&◌, ◌||◌}
 use mathlib.Core.List.{List}
 use native.Mathlib.Numerals.{add-one}
 use native.Mathlib.Omega.{arith}
 use lib.Dec.{eqb, leb, ltb}
-use lib.ListN.{length, take, drop}
-use borrow.Author.Tests.{eq-eqb, ne_eqb, eqb-true, eqb-false, not-true, not-false, leb-true, ltb-true}
+use lib.ListN.{length}
+use borrow.Author.Tests.{eqb-true, eqb-false, not-true, not-false, leb-true, ltb-true}
 use Rattle.laws.specs.Sets.{Set, any, least}
-use Rattle.laws.proofs.Tests.{split, clash, is_false, and_left, and_right, both}
-use Rattle.laws.proofs.Laws.{any_none, any_all, any_hit, any_found, any_cong, least_none, least_below, least_is}
+use Rattle.laws.proofs.Tests.{split, clash, and_left, and_right}
+use Rattle.laws.proofs.Laws.{any_all, any_hit, least_none, least_below, least_is}
 use Rattle.memory.specs.Bitmap.{with_mark, marked_in, unmarked}
 use Rattle.memory.proofs.bitmap.Laws.{length_mark, length_unmarked, marked_same, marked_other, marked_unmarked}
-use Rattle.memory.specs.Many.{many}
 use Rattle.trace_counts.specs.Counts.{is_missing}
 use Rattle.md5_digest.specs.Md5.{md5_of}
-use Rattle.md5_digest.specs.declared.Digest.{Digest}
-use Rattle.memory.specs.Flash.{payload_of, store_at}
 use Rattle.uf2_block.specs.Block.{field_at, has_flag}
 use Rattle.uf2_block.specs.Region.{region_of}
 use Rattle.uf2_block.specs.declared.Region.{Region}
-use Rattle.uf2_block.specs.Regions.{good_region, same_digest}
+use Rattle.uf2_block.specs.Regions.{same_digest}
 use Rattle.uf2_block.proofs.regions.Laws.{good_true}
-use Rattle.file_check.proofs.fileregions.Laws.{Fine, carries, right_is, fine_of, right_of}
+use Rattle.file_check.proofs.fileregions.Laws.{carries, right_is, fine_of, right_of}
+use Rattle.file_check.specs.First.{first_below}
+use Rattle.file_check.proofs.First.{first_some, first_else, least_cong}
 use Rattle.file_check.specs.Check.{piece_at, pieces_in}
-use Rattle.file_check.specs.Regions.{inside_of, same_region, strays_from, is_stray, is_bare, sector_in, laid_on, laying, in_turn, final_of, fault_in, region_fault, is_right}
-use Rattle.file_check.specs.declared.fileregions.RegionsChecked.{RegionsChecked}
-use Rattle.file_check.specs.declared.fileregions.RegionsChecked.TheVariants.{As, OtherRegion, BareSector, OtherDigest, Right}
+use Rattle.file_check.specs.Regions.{inside_of, is_stray, is_bare, sector_in, in_turn, final_of, fault_in, region_fault, is_right}
+use Rattle.file_check.specs.declared.fileregions.RegionFault.{RegionFault}
+use Rattle.file_check.specs.declared.fileregions.RegionFault.TheVariants.{OtherRegion, BareSector, OtherDigest}
 use Rattle.region_checking.specs.Parts.{names_in, names_at, sector_with, sectoring, note_with, noting, noted_after, wrong_at, asked_of, Noted, Roomy, regions_by}
-
--- ---- a piece as the code takes it
-
-pub part_is : (f : List ℕ) (i : ℕ) → take (i * 512 + 512 - i * 512) (drop (i * 512) f) ≡ piece_at f i
-unfolding piece_at
-part_is f i = let e : i * 512 + 512 - i * 512 ≡ 512 = omega arith in rw e
 
 -- ---- an arrival
 
 module _ (g : Region) (a : List ℕ) where
-  pub inside_is : {x y : ℕ} → x ≡ field_at a 8 → y ≡ field_at a 12
-      → not (eqb (x / 1 % 2) 1) && leb g.start y && ltb y (g.start + g.len) ≡ inside_of g a
-  unfolding inside_of
-  inside_is p q = (λ t. not (eqb (p t / 1 % 2) 1) && leb g.start (q t) && ltb (q t) (g.start + g.len))
-
-  pub strays_is : {own flag same : Bool} {x : Region} → own ≡ inside_of g a → flag ≡ has_flag a 0x4000 → x ≡ region_of a → same ≡ same_region x g
-      → own && not (flag && same) ≡ strays_from g a
-  unfolding strays_from
-  strays_is p q r e = (λ t. p t && not (q t && (e ∙ ap (λ (x : Region). same_region x g) r) t))
-
   -- data in the region lies behind its start
   pub inside_low : inside_of g a ≡ true → g.start ≤ field_at a 12
   unfolding inside_of
@@ -67,44 +51,6 @@ module _ (g : Region) (a : List ℕ) where
       let w = ltb (field_at a 12) (g.start + g.len) in
       ltb-true _ _ (and_right (u && v) w e)
 
-  module _ {b : Bool} (e : b ≡ inside_of g a) where
-    pub low_is : not b ≡ false → {y : ℕ} → y ≡ field_at a 12 → g.start ≤ y
-    low_is z q = let l = inside_low (sym e ∙ not-false b z) in omega (arith, l, q)
-
-    pub not_laid : not b ≡ true → (c : List ℕ) → c ≡ laid_on g a c
-    unfolding laid_on
-    not_laid y c = let z : inside_of g a ≡ false = sym e ∙ not-true b y in rw z
-
-    pub is_laid : not b ≡ false → (c : List ℕ) {y : ℕ} → y ≡ field_at a 12 → {r : List ℕ} → r ≡ store_at c (y - g.start) (payload_of a) → r ≡ laid_on g a c
-    unfolding laid_on
-    is_laid z c q h =
-        let t : inside_of g a ≡ true = sym e ∙ not-false b z in
-        h ∙ ap (λ (x : ℕ). store_at c (x - g.start) (payload_of a)) q ∙ sym (rw t)
-
-    pub not_sector : not b ≡ true → (m : List ℕ) → m ≡ sector_with g a m
-    unfolding sector_with
-    not_sector y m = let z : inside_of g a ≡ false = sym e ∙ not-true b y in rw z
-
-    pub is_sector : not b ≡ false → (m : List ℕ) {y : ℕ} → y ≡ field_at a 12 → {r : List ℕ} → r ≡ with_mark m ((y - g.start) / 4096) → r ≡ sector_with g a m
-    unfolding sector_with
-    is_sector z m q h =
-        let t : inside_of g a ≡ true = sym e ∙ not-false b z in
-        h ∙ ap (λ (x : ℕ). with_mark m ((x - g.start) / 4096)) q ∙ sym (rw t)
-
-    pub not_noted : not b ≡ true → (k : ℕ) (m : List ℕ) → m ≡ note_with g a k m
-    unfolding note_with
-    not_noted y k m = let z : inside_of g a ≡ false = sym e ∙ not-true b y in rw z
-
-    pub is_noted_lem : not b ≡ false → (k : ℕ) (m : List ℕ) {r : List ℕ} → r ≡ with_mark m k → r ≡ note_with g a k m
-    unfolding note_with
-    is_noted_lem z k m h = let t : inside_of g a ≡ true = sym e ∙ not-false b z in h ∙ sym (rw t)
-
-pub names_is : (size : ℕ) (a : List ℕ) {x y : ℕ} {flag r : Bool} {g : Region} → x ≡ field_at a 8 → flag ≡ has_flag a 0x4000 → g ≡ region_of a → y ≡ field_at a 12
-    → r ≡ good_region size y g → not (eqb (x / 1 % 2) 1) && flag && r ≡ names_in size a
-unfolding names_in
-names_is size a p q e h k =
-    (λ t. not (eqb (p t / 1 % 2) 1) && q t && (k ∙ (λ i. good_region size (h i) (e i))) t)
-
 -- ---- steps in turn
 
 pub turn_zero : (step : ℕ → List ℕ → List ℕ) (c : List ℕ) → in_turn step c 0 ≡ c
@@ -115,28 +61,7 @@ pub turn_more : (step : ℕ → List ℕ → List ℕ) (c : List ℕ) (k : ℕ) 
 unfolding in_turn
 turn_more step c k = rw (add-one k)
 
--- one step of a loop: the step is of the part of the file that the code takes
-pub turn_next : (step : List ℕ → ℕ → List ℕ → List ℕ) (f c : List ℕ) (k : ℕ) {m r : List ℕ} → m ≡ in_turn (λ j. step (piece_at f j) j) c k
-    → r ≡ step (take (k * 512 + 512 - k * 512) (drop (k * 512) f)) k m → r ≡ in_turn (λ j. step (piece_at f j) j) c (k + 1)
-turn_next step f c k p e =
-    e ∙ (λ t. step (part_is f k t) k (p t)) ∙ sym (turn_more (λ j. step (piece_at f j) j) c k)
-
--- ---- the digest
-
-pub digest_is : (f : List ℕ) (g : Region) {m b : List ℕ} {x : Digest} {r : Bool} {n : ℕ} → n ≡ g.len → m ≡ many n 255 → b ≡ in_turn (laying f g) m (pieces_in f) → x ≡ md5_of b → r ≡ same_digest x g
-    → r ≡ same_digest (md5_of (final_of f g)) g
-unfolding final_of
-digest_is f g e p q h k =
-    k ∙ ap (λ (x : Digest). same_digest x g) h ∙ ap (λ (b : List ℕ). same_digest (md5_of b) g) (q ∙ ap (λ (m : List ℕ). in_turn (laying f g) m (pieces_in f)) (p ∙ ap (λ (x : ℕ). many x 255) e))
-
 -- ---- the sectors
-
--- tests that agree below n have the same least number there
-pub least_cong : (n : ℕ) (P Q : Set) → ((j : ℕ) → j < n → P j ≡ Q j) → least n P ≡ least n Q
-unfolding least
-least_cong zero P Q h = refl
-least_cong (suc n) P Q h =
-    rw (any_cong n P Q (λ j l. h j (omega arith)), least_cong n P Q (λ j l. h j (omega arith)), h n (omega arith))
 
 or_no : (b : Bool) → b || false ≡ b
 or_no true = refl
@@ -198,46 +123,37 @@ untold : (n : ℕ) (P : Set) {k : ℕ} → k ≡ least n P → n ≤ k → any n
 untold n P e l =
     split (any n P) (λ y. let d = (least_below P n y).0 in absurd (omega (arith, d, e))) (λ z. z)
 
-module _ (f : List ℕ) (i : ℕ) (g : Region) {k : ℕ} (e : k ≡ least (pieces_in f) (is_stray f g)) where
-  pub stray_told : k < pieces_in f → OtherRegion i k ≡ fault_in f i g
+module _ (f : List ℕ) (i : ℕ) (g : Region) where
+  pub stray_told : {k : ℕ} → Some k ≡ first_below (pieces_in f) (is_stray f g) → Err (OtherRegion i k) ≡ fault_in f i g
   unfolding fault_in
-  stray_told l = let y = told (pieces_in f) (is_stray f g) e l in rw y (ap (OtherRegion i) e)
+  stray_told e = let y = first_some (pieces_in f) (is_stray f g) e in rw y.0 (ap (λ (k : ℕ). Err (OtherRegion i k)) y.1)
 
-  module _ (l : pieces_in f ≤ k) {q : ℕ} (h : q ≡ least (g.len / 4096) (is_bare f g)) where
-    pub bare_told : q < g.len / 4096 → BareSector i q ≡ fault_in f i g
+  module _ {o : Option ℕ} (e : o ≡ first_below (pieces_in f) (is_stray f g)) (w : (k : ℕ) → o ≡ Some k → ⊥) {q : ℕ} (h : q ≡ least (g.len / 4096) (is_bare f g)) where
+    none : any (pieces_in f) (is_stray f g) ≡ false
+    none = first_else (pieces_in f) (is_stray f g) e w
+
+    pub bare_told : q < g.len / 4096 → Err (BareSector i q) ≡ fault_in f i g
     unfolding fault_in
     bare_told b =
-        let z = untold (pieces_in f) (is_stray f g) e l in
         let y = told (g.len / 4096) (is_bare f g) h b in
-        rw (z, y) (ap (BareSector i) h)
+        rw (none, y) (ap (λ (k : ℕ). Err (BareSector i k)) h)
 
     module _ (b : g.len / 4096 ≤ q) {r : Bool} (d : r ≡ same_digest (md5_of (final_of f g)) g) where
-      pub digest_told : r ≡ false → OtherDigest i ≡ fault_in f i g
+      pub digest_told : r ≡ false → Err (OtherDigest i) ≡ fault_in f i g
       unfolding fault_in
       digest_told x =
-          let z = untold (pieces_in f) (is_stray f g) e l in
           let y = untold (g.len / 4096) (is_bare f g) h b in
           let v : same_digest (md5_of (final_of f g)) g ≡ false = sym d ∙ x in
-          rw (z, y, v)
+          rw (none, y, v)
 
-      pub right_told : r ≡ true → Right ≡ fault_in f i g
+      pub right_told : r ≡ true → Ok tt ≡ fault_in f i g
       unfolding fault_in
       right_told x =
-          let z = untold (pieces_in f) (is_stray f g) e l in
           let y = untold (g.len / 4096) (is_bare f g) h b in
           let v : same_digest (md5_of (final_of f g)) g ≡ true = sym d ∙ x in
-          rw (z, y, v)
+          rw (none, y, v)
 
 -- ---- what is marked
-
-module _ (f : List ℕ) (i : ℕ) (g : Region) {x : RegionsChecked} (e : x ≡ fault_in f i g) {b : Bool} (h : b ≡ is_right x) where
-  pub not_marked : not b ≡ true → (m : List ℕ) → m ≡ noted_after f i g m
-  unfolding noted_after
-  not_marked y m = let z : is_right (fault_in f i g) ≡ false = sym (h ∙ ap is_right e) ∙ not-true b y in rw z
-
-  pub is_marked_lem : not b ≡ false → (m : List ℕ) {r : List ℕ} → r ≡ in_turn (noting f g) m (pieces_in f) → r ≡ noted_after f i g m
-  unfolding noted_after
-  is_marked_lem y m q = let z : is_right (fault_in f i g) ≡ true = sym (h ∙ ap is_right e) ∙ not-false b y in q ∙ sym (rw z)
 
 -- what is marked and was not is a piece in the region
 marked_new : (f : List ℕ) (g : Region) (m : List ℕ) (n j : ℕ) → marked_in m j ≡ false → marked_in (in_turn (noting f g) m n) j ≡ true → inside_of g (piece_at f j) ≡ true
@@ -282,11 +198,11 @@ module _ (size : ℕ) (f : List ℕ) where
 
   -- ---- one piece
 
-  module _ (i : ℕ) {b : Bool} (e : b ≡ names_in size (take (i * 512 + 512 - i * 512) (drop (i * 512) f))) where
+  module _ (i : ℕ) {l : List ℕ} (p : l ≡ piece_at f i) {b : Bool} (e : b ≡ names_in size l) where
     named : {v : Bool} → b ≡ v → names_at size f i ≡ v
-    named y = ap (names_in size) (sym (part_is f i)) ∙ sym e ∙ y
+    named y = ap (names_in size) (sym p) ∙ sym e ∙ y
 
-    pub asked_none : not b ≡ true → Right ≡ asked_of size f i
+    pub asked_none : not b ≡ true → Ok tt ≡ asked_of size f i
     unfolding asked_of
     asked_none y = let z = named (not-true b y) in rw z
 
@@ -294,35 +210,35 @@ module _ (size : ℕ) (f : List ℕ) where
       names : names_at size f i ≡ true
       names = named (not-false b y)
 
-      pub asked_marked : (m : List ℕ) → Noted size f m → i < pieces_in f → {k : Bool} → k ≡ marked_in m i → k ≡ true → Right ≡ asked_of size f i
+      pub asked_marked : (m : List ℕ) → Noted size f m → i < pieces_in f → {k : Bool} → k ≡ marked_in m i → k ≡ true → Ok tt ≡ asked_of size f i
       unfolding asked_of
       asked_marked m noted h q t =
           let z : wrong_at size f i ≡ false = noted i h (sym q ∙ t) in
           let u : not (is_right (region_fault f i)) ≡ false = ap (λ (b : Bool). b && not (is_right (region_fault f i))) (sym names) ∙ z in
           sym (rw names (right_is (region_fault f i) (not-false _ u)))
 
-      pub asked_is : {g : Region} → g ≡ region_of (take (i * 512 + 512 - i * 512) (drop (i * 512) f)) → {r : RegionsChecked} → r ≡ fault_in f i g → r ≡ asked_of size f i
+      pub asked_is : {g : Region} → g ≡ region_of l → {r : Result ⊤ RegionFault} → r ≡ fault_in f i g → r ≡ asked_of size f i
       unfolding asked_of
-      asked_is p q = q ∙ ap (fault_in f i) (p ∙ ap region_of (part_is f i)) ∙ sym (rw names)
+      asked_is h q = q ∙ ap (fault_in f i) (h ∙ ap region_of p) ∙ sym (rw names)
 
-      pub region_few : {g : Region} → g ≡ region_of (take (i * 512 + 512 - i * 512) (drop (i * 512) f)) → g.len ≤ size
+      pub region_few : {g : Region} → g ≡ region_of l → g.len ≤ size
       unfolding names_in
-      region_few {g} p =
+      region_few {g} h =
           let a = piece_at f i in
           let q = good_true size (field_at a 12) (region_of a) (and_right (not (has_flag a 0x1) && has_flag a 0x4000) _ names) in
-          let d : g.len ≡ (region_of a).len = ap (λ (x : Region). x.len) (p ∙ ap region_of (part_is f i)) in
+          let d : g.len ≡ (region_of a).len = ap (λ (x : Region). x.len) (h ∙ ap region_of p) in
           omega (arith, d, q.within)
 
   -- ---- every piece
 
-  pub asked_right : (i : ℕ) {r : RegionsChecked} → r ≡ asked_of size f i → is_right r ≡ true → wrong_at size f i ≡ false
+  pub asked_right : (i : ℕ) {r : Result ⊤ RegionFault} → r ≡ asked_of size f i → is_right r ≡ true → wrong_at size f i ≡ false
   unfolding asked_of
   asked_right i e y =
       split (names_at size f i)
       (λ t. let k : asked_of size f i ≡ region_fault f i = rw t in let q : is_right (region_fault f i) ≡ true = sym (ap is_right (e ∙ k)) ∙ y in rw (t, q))
       (λ z. rw z)
 
-  pub regions_told : (i : ℕ) → i < pieces_in f → any i (wrong_at size f) ≡ false → {r : RegionsChecked} → r ≡ asked_of size f i → is_right r ≡ false → r ≡ regions_by size f
+  pub regions_told : (i : ℕ) → i < pieces_in f → any i (wrong_at size f) ≡ false → {r : Result ⊤ RegionFault} → r ≡ asked_of size f i → is_right r ≡ false → r ≡ regions_by size f
   unfolding asked_of regions_by
   regions_told i h before e y =
       split (names_at size f i)
@@ -334,9 +250,9 @@ module _ (size : ℕ) (f : List ℕ) where
       let a = any_hit (wrong_at size f) (pieces_in f) i h v in
       let l = least_is (wrong_at size f) (pieces_in f) i h before v in
       k ∙ sym (rw (a, l)))
-      (λ z. let u : asked_of size f i ≡ Right = rw z in clash (is_right Right) refl (sym (ap is_right (e ∙ u)) ∙ y))
+      (λ z. let u : asked_of size f i ≡ Ok tt = rw z in clash (is_right (Ok tt)) refl (sym (ap is_right (e ∙ u)) ∙ y))
 
-  pub regions_none : any (pieces_in f) (wrong_at size f) ≡ false → Right ≡ regions_by size f
+  pub regions_none : any (pieces_in f) (wrong_at size f) ≡ false → Ok tt ≡ regions_by size f
   unfolding regions_by
   regions_none z = rw z
 

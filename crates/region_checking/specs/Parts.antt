@@ -1,5 +1,5 @@
 -- The check of a file's regions, cut as the code does it. Assumes nothing.
-use Rattle.std.specs.Prelude.{ℕ, ◌-◌, ◌/◌, ◌<◌, ◌≤◌, ◌≡◌, Bool, true, false, cond, not, ◌&&◌, List, length}
+use Rattle.std.specs.Prelude.{ℕ, ◌<◌, ◌≤◌, ◌≡◌, Bool, true, false, cond, not, ◌&&◌, List, length, Result, Ok, ⊤}
 use Rattle.laws.specs.Sets.{Set, any, least}
 use Rattle.memory.specs.Bitmap.{with_mark, marked_in, unmarked}
 use Rattle.uf2_block.specs.Block.{field_at, has_flag}
@@ -11,8 +11,7 @@ use Rattle.uf2_checks.specs.declared.Lengths.{Lengths}
 use Rattle.file_check.specs.Check.{piece_at, pieces_in}
 use Rattle.file_check.specs.Valid.{answer_to}
 use Rattle.file_check.specs.Regions.{inside_of, sector_in, in_turn, fault_in, region_fault, is_right, names_regions}
-use Rattle.file_check.specs.declared.fileregions.RegionsChecked.{RegionsChecked}
-use Rattle.file_check.specs.declared.fileregions.RegionsChecked.TheVariants.{Right}
+use Rattle.file_check.specs.declared.fileregions.RegionFault.{RegionFault}
 
 -- an arrival is data, and names a region that counts in a place of so many bytes
 unfoldable pub names_in : ℕ → List ℕ → Bool
@@ -44,12 +43,12 @@ abbrev pub wrong_at : ℕ → List ℕ → Set
 wrong_at size f i = names_at size f i && not (is_right (region_fault f i))
 
 -- what is wrong with the region of piece i, where it names one that counts
-unfoldable pub asked_of : ℕ → List ℕ → ℕ → RegionsChecked
-asked_of size f i = cond (names_at size f i) (region_fault f i) Right
+unfoldable pub asked_of : ℕ → List ℕ → ℕ → Result ⊤ RegionFault
+asked_of size f i = cond (names_at size f i) (region_fault f i) (Ok tt)
 
 -- the first piece with which something is wrong decides
-unfoldable pub regions_by : ℕ → List ℕ → RegionsChecked
-regions_by size f = cond (any (pieces_in f) (wrong_at size f)) (region_fault f (least (pieces_in f) (wrong_at size f))) Right
+unfoldable pub regions_by : ℕ → List ℕ → Result ⊤ RegionFault
+regions_by size f = cond (any (pieces_in f) (wrong_at size f)) (region_fault f (least (pieces_in f) (wrong_at size f))) (Ok tt)
 
 -- nothing is wrong with the region of a piece that is marked
 abbrev pub Noted : ℕ → List ℕ → List ℕ → Type 0

@@ -5,6 +5,7 @@ mod asking;
 mod inside;
 mod laying;
 mod marking;
+mod turns;
 
 ghost use Rattle.std.specs.Prelude.{◌≡◌, length};
 ghost use Rattle.memory.specs.Many.{many};
@@ -14,42 +15,25 @@ ghost use Rattle.file_check.specs.Check.{check_of};
 ghost use Rattle.file_check.specs.Regions.{names_regions, regions_of, after_check, check_regions_of};
 ghost use Rattle.region_checking.specs.Parts.{Opened};
 
-use file_check::Checked;
-use file_check::fileregions::RegionsChecked;
+use file_check::FileFault;
+use file_check::fileregions::{RegionFault, RegionsChecked};
 use partitions::Settings;
 use placement::Place;
 use uf2_block::Block;
 use uf2_checks::Lengths;
 
 // The bytes of a place.
-fn size_of(place: Place) -> usize
+fn size_of(place: Option<Place>) -> usize
     ensures { result ≡ size_of place }
 {
-    match place {
-        Place::Nowhere => 0,
-        Place::At { start: _, len } => len,
-    }
+    place.map_or(0, |p| p.len)
 }
 
 // Did the first check find a valid file that names regions?
-fn names_regions(found: Checked) -> bool
+fn names_regions(found: Result<(), FileFault>) -> bool
     ensures { result ≡ names_regions found }
 {
-    match found {
-        Checked::BadBuffers => false,
-        Checked::BadSettings => false,
-        Checked::Ragged => false,
-        Checked::Empty => false,
-        Checked::Refused(_, _) => false,
-        Checked::OtherFamily(_) => false,
-        Checked::OtherTotal(_) => false,
-        Checked::OtherKind(_) => false,
-        Checked::SameNumber(_, _) => false,
-        Checked::Overlap(_, _) => false,
-        Checked::Missing(_) => false,
-        Checked::Guarded(_) => true,
-        Checked::Valid => false,
-    }
+    matches!(found, Err(FileFault::Guarded(_)))
 }
 
 // The regions of a file that the first check found valid.
@@ -60,7 +44,7 @@ fn regions(
     numbers: &mut [u8],
     cells: &mut [u8],
     image: &mut [u8],
-) -> RegionsChecked
+) -> Result<(), RegionFault>
     requires { Opened settings lens file.now numbers.old cells.old image.old }
     ensures { result ≡ regions_of settings lens file.now }
 {
@@ -72,10 +56,11 @@ fn regions(
 }
 
 // After the first check: another answer stays.
+#[tactic(auto, unfolding(file_check::specs::Regions::after_check))]
 fn after_check(
     settings: Settings,
     lens: Lengths,
-    found: Checked,
+    found: Result<(), FileFault>,
     file: &[u8],
     numbers: &mut [u8],
     cells: &mut [u8],
@@ -90,9 +75,9 @@ fn after_check(
         return RegionsChecked::As(found);
     }
     if image.len() != lens.flash {
-        return RegionsChecked::As(Checked::BadBuffers);
+        return RegionsChecked::As(Err(FileFault::BadBuffers));
     }
-    regions(settings, lens, file, numbers, cells, image)
+    RegionsChecked::Named(regions(settings, lens, file, numbers, cells, image))
 }
 
 // What is wrong with a file for a board with such settings and buffers of such lengths, its regions too: the first thing, or nothing. Lent are the

@@ -2,6 +2,7 @@
 use mathlib.Core.Path.{◌≡◌, refl, sym, ap, ◌∙◌, subst}
 use mathlib.Core.Bool.{Bool, true, false, cond, not, ◌&&◌, ◌||◌, true≢false}
 use mathlib.Core.List.{List, [], ◌∷◌, ◌++◌}
+use Rattle.std.specs.Prelude.{Result, Ok, Err}
 use Prim.Native.Nat.{ℕ, zero, suc, ◌+◌, ◌*◌, ◌<◌, ◌≤◌, ◌^◌}
 use native.Mathlib.Decide.{ℕ_discrete}
 use native.Mathlib.Omega.{arith}
@@ -26,10 +27,9 @@ use Rattle.store_entry.specs.EntryBits.{slot, entry_widths, packed_entry, entry_
 use Rattle.store_entry.proofs.ReadBack.{even}
 use Rattle.store_entry.proofs.OneEntry.{entry_only, old_unmarked}
 use Rattle.store_entry.proofs.Parts.{part_fit}
-use Rattle.settings_store.specs.declared.write.StoreAnswer.{StoreAnswer}
-use Rattle.settings_store.specs.declared.write.StoreAnswer.TheVariants.{BadBuffers, BadSettings, BadVersion, BadLength, BadBits, Good}
-use Rattle.settings_store.specs.declared.Reading.{Reading}
-use Rattle.settings_store.specs.Store.{no_restart_at, version_of, head_widths, arch_bit, head_fields, row_at, store_of, head_in, part_in, entry_of, arch_from, settings_in, stray_at, strays_in, refusal, found, read_head, read_of}
+use Rattle.settings_store.specs.declared.write.StoreError.{StoreError}
+use Rattle.settings_store.specs.declared.write.StoreError.TheVariants.{BadBuffers, BadSettings, BadVersion, BadLength, BadBits}
+use Rattle.settings_store.specs.Store.{no_restart_at, version_of, head_widths, arch_bit, head_fields, row_at, store_of, head_in, part_in, entry_of, arch_from, settings_in, stray_at, strays_in, read_head, read_of}
 use Rattle.settings_claims.specs.Claims.{Narrow, Bytes, neat, ReadIsTheEncoding, OneEncoding, NoOtherBytes}
 use Rattle.settings_claims.proofs.Parts.{rows_parts}
 use Rattle.settings_claims.proofs.Compared.{compared_store, neat_compared}
@@ -37,33 +37,19 @@ use Rattle.settings_claims.proofs.Written.{head_even, good_few, written_reads_ba
 
 -- ---- the checks, where settings are read
 
-is_good : StoreAnswer → Bool
-is_good BadBuffers = false
-is_good BadSettings = false
-is_good BadVersion = false
-is_good BadLength = false
-is_good BadBits = false
-is_good Good = true
-
-clear : (x : StoreAnswer) (s : Settings) {A : Type 0} → is_good x ≡ false → refusal x ≡ found s → A
-unfolding is_good
-clear x s f e = absurd (true≢false (sym (ap (λ (r : Reading). is_good r.answer) e) ∙ f))
-
 picked : (a b c d e : Bool) (x s : Settings)
-    → cond a (refusal BadVersion) (cond b (refusal BadBits) (cond c (refusal BadLength) (cond d (refusal BadBits) (cond e (refusal BadSettings) (found x))))) ≡ found s
+    → cond a (Err BadVersion) (cond b (Err BadBits) (cond c (Err BadLength) (cond d (Err BadBits) (cond e (Err BadSettings) (Ok x))))) ≡ Ok s
     → (a ≡ false) × (b ≡ false) × (c ≡ false) × (d ≡ false) × (e ≡ false) × (x ≡ s)
-unfolding is_good
-picked true b c d e x s p = clear BadVersion s refl p
-picked false true c d e x s p = clear BadBits s refl p
-picked false false true d e x s p = clear BadLength s refl p
-picked false false false true e x s p = clear BadBits s refl p
-picked false false false false true x s p = clear BadSettings s refl p
-picked false false false false false x s p = (refl, refl, refl, refl, refl, ap (λ (r : Reading). r.settings) p)
+picked true b c d e x s p = cc
+picked false true c d e x s p = cc
+picked false false true d e x s p = cc
+picked false false false true e x s p = cc
+picked false false false false true x s p = cc
+picked false false false false false x s p = (refl, refl, refl, refl, refl, cc)
 
-picked_first : (a b : Bool) (x : Reading) (s : Settings) → cond a (refusal BadBuffers) (cond b (refusal BadLength) x) ≡ found s → (a ≡ false) × (b ≡ false) × (x ≡ found s)
-unfolding is_good
-picked_first true b x s p = clear BadBuffers s refl p
-picked_first false true x s p = clear BadLength s refl p
+picked_first : (a b : Bool) (x : Result Settings StoreError) (s : Settings) → cond a (Err BadBuffers) (cond b (Err BadLength) x) ≡ Ok s → (a ≡ false) × (b ≡ false) × (x ≡ Ok s)
+picked_first true b x s p = cc
+picked_first false true x s p = cc
 picked_first false false x s p = (refl, refl, p)
 
 not_false : (b : Bool) → not b ≡ false → b ≡ true
@@ -258,7 +244,7 @@ pub record Found (b : List ℕ) (len : ℕ) (s : Settings) : Type 0 where
   pub encoded : store_of s ≡ b
   pub narrow : Narrow s
 
-pub read_found : (b : List ℕ) (len : ℕ) (s : Settings) → Bytes b → read_of b len ≡ found s → Found b len s
+pub read_found : (b : List ℕ) (len : ℕ) (s : Settings) → Bytes b → read_of b len ≡ Ok s → Found b len s
 unfolding read_of read_head
 read_found b len s low e =
     let h = head_in b in
@@ -275,21 +261,16 @@ read_found b len s low e =
       narrow = subst Narrow q.5 (store_narrow b low q.0 few whole q.3);
     }
 
-settings_of_lem : Reading → Settings
-settings_of_lem r = r.settings
-
 pub read_is_the_encoding : ReadIsTheEncoding
-unfolding settings_of_lem
 read_is_the_encoding b len s low e =
     let f = read_found b len s low e in
-    let back : read_of b len ≡ found (neat s) = ap (λ (x : List ℕ). read_of x len) (sym f.encoded) ∙ written_reads_back s len f.right f.good f.narrow in
-    (f.encoded, ap settings_of_lem (sym back ∙ e), f.good)
+    let back : read_of b len ≡ Ok (neat s) = ap (λ (x : List ℕ). read_of x len) (sym f.encoded) ∙ written_reads_back s len f.right f.good f.narrow in
+    (f.encoded, cc (sym back ∙ e), f.good)
 
 pub one_encoding : OneEncoding
-unfolding settings_of_lem
 one_encoding s t len right gs gt ns nt = (
   λ e.
-      let same : neat s ≡ neat t = ap settings_of_lem (sym (written_reads_back s len right gs ns) ∙ ap (λ (b : List ℕ). read_of b len) e ∙ written_reads_back t len right gt nt) in
+      let same : neat s ≡ neat t = cc (sym (written_reads_back s len right gs ns) ∙ ap (λ (b : List ℕ). read_of b len) e ∙ written_reads_back t len right gt nt) in
       neat_compared s t (good_few s len right gs) (good_count t len gt) same,
   λ h. compared_store s t h,
 )

@@ -16,8 +16,6 @@ use Rattle.partitions.proofs.Tables.{table_at}
 use Rattle.laws.specs.Packing.{total, unpacked, fields_of}
 use Rattle.store_entry.specs.EntryBits.{entry_widths, entry_from, stray_from}
 use Rattle.store_entry.proofs.OneEntry.{nine}
-use Rattle.settings_store.specs.Written.{no_restart_in}
-use Rattle.settings_store.proofs.write.Cases.{no_restart_few}
 use Rattle.settings_store.specs.Store.{no_restart_at, part_in, entry_of, stray_at}
 use Rattle.settings_claims.specs.Bits.{value_of, entry_bits}
 use Rattle.settings_claims.specs.Refusals.{version_in, count_in, Whole, Stray, head_zeros, kind_3, unlinked_index, many_users_case, unused_slot_0, unused_slot_1, unused_slot_2, unused_slot_3, sixth_last, last_five, needless_2}
@@ -112,12 +110,12 @@ module _ (b : List ℕ) (len : ℕ) (w : Whole b len) where
   abbrev test : Bool
   test =
       not (eqb ((get_or b 0 0 * 256 + get_or b 1 0) / 1 % 4) 0) || any (count_in b) (stray_at b (version_in b))
-      || eqb (version_in b) 2 && not (no_restart_in (table_of (entry_of b) (count_in b)) (count_in b))
+      || eqb (version_in b) 2 && not (any (count_in b) (no_restart_at (table_of (entry_of b) (count_in b))))
 
   entry_test : any (count_in b) (stray_at b (version_in b)) ≡ true → test ≡ true
   entry_test t = rw (t, or-true (not (eqb ((get_or b 0 0 * 256 + get_or b 1 0) / 1 % 4) 0)))
 
-  version_test : eqb (version_in b) 2 && not (no_restart_in (table_of (entry_of b) (count_in b)) (count_in b)) ≡ true → test ≡ true
+  version_test : eqb (version_in b) 2 && not (any (count_in b) (no_restart_at (table_of (entry_of b) (count_in b)))) ≡ true → test ≡ true
   version_test t = rw (t, or-true (not (eqb ((get_or b 0 0 * 256 + get_or b 1 0) / 1 % 4) 0) || any (count_in b) (stray_at b (version_in b))))
 
   entry_hit : (k : ℕ) (l : k < count_in b) (x : Bool) → (stray_from (version_in b) (f k l) ≡ false → x ≡ false) → x ≡ true → test ≡ true
@@ -144,4 +142,4 @@ module _ (b : List ℕ) (len : ℕ) (w : Whole b len) where
       let t = table_of (entry_of b) (count_in b) in
       version_test
       (both (eq-eqb (version_in b) 2 v)
-      (rw (no_restart_few t (count_in b) w.few, any_none (no_restart_at t) (count_in b) (λ k l. restarts k l (h k l)))))
+      (rw (any_none (no_restart_at t) (count_in b) (λ k l. restarts k l (h k l)))))

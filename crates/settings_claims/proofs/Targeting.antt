@@ -8,6 +8,7 @@ use native.Mathlib.Omega.{arith}
 use lib.Dec.{ltb, eqb}
 use lib.ListN.{get_or}
 use borrow.Author.Tests.{eqb-true, eqb-false, eq-eqb, lt-ltb, ltb-true, not-true}
+use Rattle.std.specs.Prelude.{Some, None}
 use Rattle.laws.specs.Sets.{any}
 use Rattle.laws.proofs.Tests.{split, clash, is_false, and_left, and_right}
 use Rattle.laws.proofs.Laws.{any_hit, any_found}
@@ -20,12 +21,9 @@ use Rattle.partitions.specs.declared.Link.TheVariants.{Unlinked, OwnedBy, BOf}
 use Rattle.partitions.specs.Settings.{link_is_b, link_is_none, is_a, user_is, has_user, accepts, entry_at}
 use Rattle.partitions.proofs.Laws.{good_count}
 use Rattle.placement.specs.declared.passes.PassQuery.{PassQuery}
-use Rattle.placement.specs.declared.Choice.{Choice}
-use Rattle.placement.specs.declared.Choice.TheVariants as choice
-use Rattle.placement.specs.declared.Place.TheVariants.{Nowhere, At}
-use Rattle.placement.specs.Place.{first_of, entry_if, in_pass, chosen, chosen_entry, pass_query_of, pass_allows, pass_takes, used_count, gets_whole, whole_if, place_of_choice, place_of}
+use Rattle.placement.specs.Place.{first_of, entry_if, in_pass, chosen, chosen_entry, pass_query_of, pass_allows, pass_takes, used_count, gets_whole, whole_if, place_of_choice, place_of, Choice, place_from}
 use Rattle.placement.proofs.First.{first_all, first_none, first_hit, if_taken, if_passed}
-use Rattle.placement.proofs.Laws.{place_absolute, place_rp2040, place_whole, place_table, used_least, used_whole}
+use Rattle.placement.proofs.Laws.{place_absolute, place_rp2040, place_whole, place_table, used_least, used_whole, start_is, len_is}
 use Rattle.placement.specs.Place as place
 use Rattle.placement.proofs.Theorems.{no_place}
 use native.Mathlib.Nat.{le_refl, le_step}
@@ -177,29 +175,29 @@ module _ (s : Settings) (f : ℕ) where
 -- ---- the first match
 
 module _ (g : ℕ → Choice) where
-  first_least : (n : ℕ) {k : ℕ} → first_of g n ≡ choice.Entry k → (i : ℕ) × (i < n) × (g i ≡ choice.Entry k) × ((j : ℕ) → j < i → g j ≡ choice.Nothing)
+  first_least : (n : ℕ) {k : ℕ} → first_of g n ≡ Some k → (i : ℕ) × (i < n) × (g i ≡ Some k) × ((j : ℕ) → j < i → g j ≡ None)
   unfolding first_of
   first_least zero e = let z : ◌≡◌ {A = ℕ} 0 1 = cc in absurd (omega arith)
   first_least (suc n) {k} e = go (first_of g n) refl (λ h. first_least n h)
     where
-      go : (c : Choice) → first_of g n ≡ c → (first_of g n ≡ choice.Entry k → (i : ℕ) × (i < n) × (g i ≡ choice.Entry k) × ((j : ℕ) → j < i → g j ≡ choice.Nothing))
-          → (i : ℕ) × (i < suc n) × (g i ≡ choice.Entry k) × ((j : ℕ) → j < i → g j ≡ choice.Nothing)
-      go choice.Nothing h r = (n, le_refl (suc n), rw h at e, first_all g n h)
-      go (choice.Entry j) h r = let q = r (h ∙ rw h at e) in (q.0, le_step q.1, q.2, q.3)
+      go : (c : Choice) → first_of g n ≡ c → (first_of g n ≡ Some k → (i : ℕ) × (i < n) × (g i ≡ Some k) × ((j : ℕ) → j < i → g j ≡ None))
+          → (i : ℕ) × (i < suc n) × (g i ≡ Some k) × ((j : ℕ) → j < i → g j ≡ None)
+      go None h r = (n, le_refl (suc n), rw h at e, first_all g n h)
+      go (Some j) h r = let q = r (h ∙ rw h at e) in (q.0, le_step q.1, q.2, q.3)
 
 module _ (table : List Entry) (w : PassQuery) (q i : ℕ) where
-  if_entry : (k : ℕ) → entry_if table w q i ≡ choice.Entry k → (i ≡ k) × (pass_takes w q (entry_at table i) ≡ true)
+  if_entry : (k : ℕ) → entry_if table w q i ≡ Some k → (i ≡ k) × (pass_takes w q (entry_at table i) ≡ true)
   unfolding entry_if
   if_entry k h =
       split (pass_takes w q (entry_at table i))
-      (λ t. let e : choice.Entry i ≡ choice.Entry k = rw t at h in (cc, t))
-      (λ t. let e : choice.Nothing ≡ choice.Entry k = rw t at h in let z : ◌≡◌ {A = ℕ} 0 1 = cc in absurd (omega arith))
+      (λ t. let e : Some i ≡ Some k = rw t at h in (cc, t))
+      (λ t. let e : None ≡ Some k = rw t at h in let z : ◌≡◌ {A = ℕ} 0 1 = cc in absurd (omega arith))
 
-  if_nothing : entry_if table w q i ≡ choice.Nothing → pass_takes w q (entry_at table i) ≡ false
+  if_nothing : entry_if table w q i ≡ None → pass_takes w q (entry_at table i) ≡ false
   unfolding entry_if
   if_nothing h =
       split (pass_takes w q (entry_at table i))
-      (λ t. let e : choice.Entry i ≡ choice.Nothing = rw t at h in let z : ◌≡◌ {A = ℕ} 0 1 = cc in absurd (omega arith))
+      (λ t. let e : Some i ≡ None = rw t at h in let z : ◌≡◌ {A = ℕ} 0 1 = cc in absurd (omega arith))
       (λ t. t)
 
 module _ (s : Settings) (f : ℕ) (most : s.count ≤ 16) where
@@ -213,7 +211,7 @@ module _ (s : Settings) (f : ℕ) (most : s.count ≤ 16) where
   used k l = omega (arith, used_least s.count)
 
   -- what the passes choose is the first match
-  chosen_first : (k : ℕ) → chosen_entry s f ≡ choice.Entry k → (p : ℕ) × First s f p k
+  chosen_first : (k : ℕ) → chosen_entry s f ≡ Some k → (p : ℕ) × First s f p k
   unfolding chosen_entry chosen in_pass
   chosen_first k h =
       let w = pass_query_of s f in
@@ -239,7 +237,7 @@ module _ (s : Settings) (f : ℕ) (most : s.count ≤ 16) where
       )
 
   -- and the first match is chosen
-  first_chosen : (p k : ℕ) → First s f p k → chosen_entry s f ≡ choice.Entry k
+  first_chosen : (p k : ℕ) → First s f p k → chosen_entry s f ≡ Some k
   unfolding chosen_entry chosen in_pass
   first_chosen p k m =
       let w = pass_query_of s f in
@@ -285,18 +283,18 @@ module _ (s : Settings) (len f : ℕ) where
       (λ o. ⊎_elim (λ e. whole_arm_s z e.0 e.1) (λ e. whole_riscv z e.0 e.1) o)
       (gets_said s f h)
 
-  whole_said : (b : Bool) {a n : ℕ} → whole_if b len ≡ At a n → (b ≡ true) × (0 ≡ a) × (len ≡ n)
-  whole_said true h = (refl, cc, cc)
+  whole_said : (b : Bool) {a n : ℕ} → whole_if b len ≡ Some (place_from a n) → (b ≡ true) × (0 ≡ a) × (len ≡ n)
+  whole_said true h = (refl, start_is h, len_is h)
   whole_said false h = let z : ◌≡◌ {A = ℕ} 0 1 = cc in absurd (omega arith)
 
-  choice_said : (c : Choice) {a n : ℕ} → place_of_choice s.table c ≡ At a n → (k : ℕ) × (c ≡ choice.Entry k) × ((row s k).first * 4096 ≡ a) × ((row s k).sectors * 4096 ≡ n)
-  choice_said choice.Nothing h = let z : ◌≡◌ {A = ℕ} 0 1 = cc in absurd (omega arith)
-  choice_said (choice.Entry k) h = (k, refl, cc, cc)
+  choice_said : (c : Choice) {a n : ℕ} → place_of_choice s.table c ≡ Some (place_from a n) → (k : ℕ) × (c ≡ Some k) × ((row s k).first * 4096 ≡ a) × ((row s k).sectors * 4096 ≡ n)
+  choice_said None h = let z : ◌≡◌ {A = ℕ} 0 1 = cc in absurd (omega arith)
+  choice_said (Some k) h = (k, refl, start_is h, len_is h)
 
   place_at : {a n b m : ℕ} → HasPlace s len f a n → a ≡ b → n ≡ m → HasPlace s len f b m
   place_at h p q = rw (← p, ← q) h
 
-  place_said : s.count ≤ 16 → {a n : ℕ} → place_of s len f ≡ At a n → HasPlace s len f a n
+  place_said : s.count ≤ 16 → {a n : ℕ} → place_of s len f ≡ Some (place_from a n) → HasPlace s len f a n
   place_said most {a} {n} h =
       split (eqb f 0xe48bff57)
       (λ t.
@@ -306,7 +304,7 @@ module _ (s : Settings) (len f : ℕ) where
       (λ t.
       let na = eqb-false f 0xe48bff57 t in
       split (eqb f 0xe48bff56)
-      (λ r. let x : Nowhere ≡ At a n = sym (place_rp2040 s len f (eqb-true f 0xe48bff56 r)) ∙ h in let z : ◌≡◌ {A = ℕ} 0 1 = cc in absurd (omega arith))
+      (λ r. let x : None ≡ Some (place_from a n) = sym (place_rp2040 s len f (eqb-true f 0xe48bff56 r)) ∙ h in let z : ◌≡◌ {A = ℕ} 0 1 = cc in absurd (omega arith))
       (λ r.
       let nr = eqb-false f 0xe48bff56 r in
       split (eqb s.count 0)
@@ -322,7 +320,7 @@ module _ (s : Settings) (len f : ℕ) where
   others : (m : ℕ) → f ≡ m → m ≢ 0xe48bff57 → m ≢ 0xe48bff56 → (f ≢ 0xe48bff57) × (f ≢ 0xe48bff56)
   others m q a r = (λ e. a (sym q ∙ e), λ e. r (sym q ∙ e))
 
-  said_place : s.count ≤ 16 → {a n : ℕ} → HasPlace s len f a n → place_of s len f ≡ At a n
+  said_place : s.count ≤ 16 → {a n : ℕ} → HasPlace s len f a n → place_of s len f ≡ Some (place_from a n)
   said_place most (absolute q h) = place_absolute s len f q ∙ rw h
   said_place most (whole_data z q) = let o = others 0xe48bff58 q (omega arith) (omega arith) in place_whole s len f o.0 o.1 z ∙ rw q
   said_place most (whole_arm_s z q h) = let o = others 0xe48bff59 q (omega arith) (omega arith) in place_whole s len f o.0 o.1 z ∙ rw (q, h)

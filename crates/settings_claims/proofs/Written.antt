@@ -2,6 +2,7 @@
 use mathlib.Core.Path.{◌≡◌, refl, sym, ap, ◌∙◌}
 use mathlib.Core.Bool.{true, false, cond, not, ◌&&◌, ◌||◌}
 use mathlib.Core.List.{List, ◌++◌}
+use Rattle.std.specs.Prelude.{Ok, Err}
 use Prim.Native.Nat.{ℕ, ◌+◌, ◌*◌, ◌%◌, ◌<◌, ◌≤◌}
 use native.Mathlib.Omega.{arith}
 use lib.Dec.{leb, eqb}
@@ -30,10 +31,10 @@ use Rattle.store_entry.specs.EntryBits.{index_of, entry_widths, entry_fields, pa
 use Rattle.store_entry.proofs.ReadBack.{even}
 use Rattle.store_entry.proofs.OneEntry.{entry_back as fields_back}
 use Rattle.store_entry.proofs.OneEntry.{Fits, entry_fit, entry_neat}
-use Rattle.settings_store.specs.declared.write.StoreAnswer.TheVariants.{BadSettings}
-use Rattle.settings_store.specs.Store.{arch_bit, arch_from, entry_of, found, head_fields, head_in, head_widths, no_settings, part_in, read_head, read_of, refusal, no_restart_at, row_at, settings_in, store_of, stray_at, strays_in, version_of}
+use Rattle.settings_store.specs.declared.write.StoreError.TheVariants.{BadSettings}
+use Rattle.settings_store.specs.Store.{arch_bit, arch_from, entry_of, head_fields, head_in, head_widths, no_settings, part_in, read_head, read_number, read_of, no_restart_at, row_at, settings_in, store_of, stray_at, strays_in, version_of}
 use Rattle.settings_store.proofs.write.Rows.{length_row}
-use Rattle.settings_claims.specs.Claims.{Narrow, neat, neat_at, WrittenReadsBack, NoSettingsAreBad}
+use Rattle.settings_claims.specs.Claims.{Narrow, neat, neat_at, WrittenReadsBack, RefusalsHaveNone, NoSettingsAreBad}
 use Rattle.settings_claims.proofs.Compared.{Few, good_neat}
 
 -- ---- the entries of good settings fit
@@ -183,22 +184,25 @@ module _ (s : Settings) (few : s.count ≤ 16) (fits : (k : ℕ) → k < s.count
       (version_needed s)
 
   -- nothing is refused before the settings are
-  read_to_the_end : (len : ℕ) → flash_length len ≡ true → read_of (store_of s) len ≡ cond (not (good_settings (neat s) len)) (refusal BadSettings) (found (neat s))
+  read_to_the_end : (len : ℕ) → flash_length len ≡ true → read_of (store_of s) len ≡ cond (not (good_settings (neat s) len)) (Err BadSettings) (Ok (neat s))
   unfolding read_of read_head head_fields
   read_to_the_end len p =
       let short = le-ltb (length (store_of s)) 2 (omega (arith, store_length)) in
       rw (p, short, head_back)
       (rw (version_known s, le-ltb 16 s.count few, eq-eqb (length (store_of s)) (2 + 22 * s.count) store_length, none_stray) (rw settings_back refl))
 
-  read_back : (len : ℕ) → flash_length len ≡ true → good_settings (neat s) len ≡ true → read_of (store_of s) len ≡ found (neat s)
+  read_back : (len : ℕ) → flash_length len ≡ true → good_settings (neat s) len ≡ true → read_of (store_of s) len ≡ Ok (neat s)
   read_back len p q = read_to_the_end len p ∙ rw q
 
-  pub read_bad : (len : ℕ) → flash_length len ≡ true → good_settings (neat s) len ≡ false → read_of (store_of s) len ≡ refusal BadSettings
+  pub read_bad : (len : ℕ) → flash_length len ≡ true → good_settings (neat s) len ≡ false → read_of (store_of s) len ≡ Err BadSettings
   read_bad len p q = read_to_the_end len p ∙ rw q
 
 pub written_reads_back : WrittenReadsBack
 written_reads_back s len right good narrow =
     read_back s (good_count s len good) (good_fields s len right good) narrow len right (good_neat s len (good_few s len right good) ∙ good)
+
+pub refusals_have_none : RefusalsHaveNone
+refusals_have_none b len s n e = n (ap read_number e)
 
 pub no_settings_are_bad : NoSettingsAreBad
 no_settings_are_bad len = good_off no_settings len refl

@@ -1,6 +1,6 @@
 -- A table of places (01, "Settings and the place of a family"; 001, 004): which entry a family gets, in a flash of 65,536 bytes. Entry k has the sectors 2 k
 -- and 2 k + 1, so that its place is 8,192 bytes from 8,192 x k on. Computed in proofs/Places.antt. Assumes nothing.
-use Rattle.std.specs.Prelude.{ℕ, suc, ◌-◌, ◌*◌, ◌≡◌, Bool, true, false, List, [], ◌∷◌, ◌++◌, map, length, replicate}
+use Rattle.std.specs.Prelude.{ℕ, suc, ◌-◌, ◌*◌, ◌≡◌, Bool, true, false, List, [], ◌∷◌, ◌++◌, map, length, replicate, Ok, Err}
 use Rattle.partitions.specs.declared.Settings.{Settings}
 use Rattle.partitions.specs.declared.Entry.{Entry}
 use Rattle.partitions.specs.declared.Arch.{Arch}
@@ -8,9 +8,8 @@ use Rattle.partitions.specs.declared.Arch.TheVariants.{Arm, RiscV}
 use Rattle.partitions.specs.declared.Link.{Link}
 use Rattle.partitions.specs.declared.Link.TheVariants.{Unlinked, OwnedBy, BOf}
 use Rattle.partitions.specs.Settings.{blank_entry}
-use Rattle.placement.specs.declared.PlaceAnswer.{PlaceAnswer}
-use Rattle.placement.specs.declared.PlaceAnswer.TheVariants.{BadSettings, NoPlace, Found}
-use Rattle.placement.specs.Place.{ask_of}
+use Rattle.placement.specs.declared.PlaceError.TheVariants.{BadSettings, NoPlace}
+use Rattle.placement.specs.Place.{ask_of, PlaceAnswer, place_from}
 
 -- entry k: link; accepts data, arm-s, riscv, arm-ns; user families and how many are used; not bootable for Arm, for RISC-V
 abbrev pub entry_as : Link → Bool → Bool → Bool → Bool → List ℕ → ℕ → Bool → Bool → ℕ → Entry
@@ -97,10 +96,10 @@ arm_ns = 0xe48bff5b
 
 -- entry k's place, and the whole flash
 abbrev pub place : ℕ → PlaceAnswer
-place k = Found (8192 * k) 8192
+place k = Ok (place_from (8192 * k) 8192)
 
 abbrev pub whole : PlaceAnswer
-whole = Found 0 65536
+whole = Ok (place_from 0 65536)
 
 -- two entries that accept arm-s and riscv: the first is shut for both architectures, the second for none
 abbrev pub shut_then_open : List (ℕ → Entry)
@@ -110,23 +109,23 @@ unfoldable pub cases : List Case
 cases =
     -- no table: "data, arm-s (Arm enabled) and riscv (RISC-V enabled) get the whole flash. Others no place."
     asked (board true false Arm false true []) (rp2040 ∷ absolute ∷ data' ∷ arm_s ∷ riscv ∷ arm_ns ∷ 0x11 ∷ [])
-    (NoPlace ∷ whole ∷ whole ∷ whole ∷ NoPlace ∷ NoPlace ∷ NoPlace ∷ [])
+    ((Err NoPlace) ∷ whole ∷ whole ∷ whole ∷ (Err NoPlace) ∷ (Err NoPlace) ∷ (Err NoPlace) ∷ [])
     ++ asked (board false true RiscV false false []) (rp2040 ∷ absolute ∷ data' ∷ arm_s ∷ riscv ∷ arm_ns ∷ 0x11 ∷ [])
-    (NoPlace ∷ NoPlace ∷ whole ∷ NoPlace ∷ whole ∷ NoPlace ∷ NoPlace ∷ [])
+    ((Err NoPlace) ∷ (Err NoPlace) ∷ whole ∷ (Err NoPlace) ∷ whole ∷ (Err NoPlace) ∷ (Err NoPlace) ∷ [])
     -- "the current architecture isn't enabled", of both
-    ++ asked (board false true Arm false true []) (data' ∷ []) (BadSettings ∷ [])
-    ++ asked (board true false RiscV false true []) (data' ∷ []) (BadSettings ∷ [])
+    ++ asked (board false true Arm false true []) (data' ∷ []) ((Err BadSettings) ∷ [])
+    ++ asked (board true false RiscV false true []) (data' ∷ []) ((Err BadSettings) ∷ [])
     -- each accepts-flag alone, and each slot; with a table absolute has the whole flash and rp2040 none
     ++ asked
     (board true true Arm true true
     (entry_as Unlinked true false false false no_users 0 false false ∷ entry_as Unlinked false true false false no_users 0 false false
     ∷ entry_as Unlinked false false true false no_users 0 false false ∷ entry_as Unlinked false false false true no_users 0 false false ∷ four 4 ∷ []))
     (data' ∷ arm_s ∷ riscv ∷ arm_ns ∷ 0x11 ∷ 0x22 ∷ 0x33 ∷ 0x44 ∷ 0x55 ∷ 0 ∷ absolute ∷ rp2040 ∷ [])
-    (place 0 ∷ place 1 ∷ place 2 ∷ place 3 ∷ place 4 ∷ place 4 ∷ place 4 ∷ place 4 ∷ NoPlace ∷ NoPlace ∷ whole ∷ NoPlace ∷ [])
+    (place 0 ∷ place 1 ∷ place 2 ∷ place 3 ∷ place 4 ∷ place 4 ∷ place 4 ∷ place 4 ∷ (Err NoPlace) ∷ (Err NoPlace) ∷ whole ∷ (Err NoPlace) ∷ [])
     -- a slot that is not used
-    ++ asked (board true true Arm true false (four 3 ∷ [])) (0x33 ∷ 0x44 ∷ absolute ∷ []) (place 0 ∷ NoPlace ∷ NoPlace ∷ [])
+    ++ asked (board true true Arm true false (four 3 ∷ [])) (0x33 ∷ 0x44 ∷ absolute ∷ []) (place 0 ∷ (Err NoPlace) ∷ (Err NoPlace) ∷ [])
     -- "B of" is never chosen; an owned entry is, by pass 4, where no unowned one accepts
-    ++ asked (board true true Arm true true (mute ∷ user (BOf 0) ∷ [])) (0x11 ∷ []) (NoPlace ∷ [])
+    ++ asked (board true true Arm true true (mute ∷ user (BOf 0) ∷ [])) (0x11 ∷ []) ((Err NoPlace) ∷ [])
     ++ asked (board true true Arm true true (mute ∷ user (OwnedBy 0) ∷ [])) (0x11 ∷ []) (place 1 ∷ [])
     ++ asked (board true true Arm true true (mute ∷ user (BOf 0) ∷ user (OwnedBy 0) ∷ user Unlinked ∷ [])) (0x11 ∷ []) (place 3 ∷ [])
     -- pass 1: the current architecture's image; the other's, without auto switch, goes to the first

@@ -4,7 +4,7 @@ use Rattle.std.specs.Prelude.{ℕ, ◌+◌, ◌*◌, ◌/◌, ◌%◌, ◌<◌, 
 use Rattle.memory.specs.Flash.{flash_length}
 use Rattle.partitions.specs.declared.Settings.{Settings}
 use Rattle.partitions.specs.Settings.{empty_entry, good_settings}
-use Rattle.settings_store.specs.declared.write.StoreAnswer.TheVariants.{BadBuffers, BadSettings, BadVersion, BadLength, BadBits}
+use Rattle.settings_store.specs.declared.write.StoreError.TheVariants.{BadBuffers, BadSettings, BadVersion, BadLength, BadBits}
 use Rattle.settings_store.specs.Store.{store_number, read_of, read_number}
 use Rattle.settings_claims.specs.Claims.{Bytes}
 use Rattle.settings_claims.specs.Bits.{entry_bits, Laid}

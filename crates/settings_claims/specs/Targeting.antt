@@ -1,13 +1,12 @@
 -- The place of a family by the fields of the settings and of the table's entries (01, "Settings and the place of a family"; demand 2): none of the
 -- definitions that the code meets stands on the side of the words. Proved in proofs/Targeting.antt. Assumes nothing.
-use Rattle.std.specs.Prelude.{ℕ, ◌*◌, ◌<◌, ◌≡◌, ◌↔◌, ◌≢◌, true, false, get_or}
+use Rattle.std.specs.Prelude.{ℕ, ◌*◌, ◌<◌, ◌≡◌, ◌↔◌, ◌≢◌, true, false, get_or, Some, None}
 use Rattle.partitions.specs.declared.Settings.{Settings}
 use Rattle.partitions.specs.declared.Entry.{Entry}
 use Rattle.partitions.specs.declared.Arch.TheVariants.{Arm, RiscV}
 use Rattle.partitions.specs.declared.Link.TheVariants.{Unlinked, BOf}
 use Rattle.partitions.specs.Settings.{empty_entry, good_settings}
-use Rattle.placement.specs.declared.Place.TheVariants.{Nowhere, At}
-use Rattle.placement.specs.Place.{place_of}
+use Rattle.placement.specs.Place.{place_of, place_from}
 
 -- ---- one entry
 
@@ -37,7 +36,7 @@ pub record Accepting (s : Settings) (f k : ℕ) : Type 0 where
 unfoldable pub NoPlaceByFields : Type 0
 NoPlaceByFields =
     (s : Settings) (len f : ℕ) → good_settings s len ≡ true → s.count ≢ 0 → f ≢ 0xe48bff57 → f ≢ 0xe48bff56
-    → (place_of s len f ≡ Nowhere) ↔ ((k : ℕ) → Accepting s f k → ⊥)
+    → (place_of s len f ≡ None) ↔ ((k : ℕ) → Accepting s f k → ⊥)
 
 -- ---- the passes
 
@@ -81,4 +80,4 @@ pub data HasPlace (s : Settings) (len f : ℕ) : ℕ → ℕ → Type 0 where
 -- in both directions, so that every other family has none
 unfoldable pub PlaceByFields : Type 0
 PlaceByFields =
-    (s : Settings) (len f a n : ℕ) → good_settings s len ≡ true → (place_of s len f ≡ At a n) ↔ HasPlace s len f a n
+    (s : Settings) (len f a n : ℕ) → good_settings s len ≡ true → (place_of s len f ≡ Some (place_from a n)) ↔ HasPlace s len f a n

@@ -11,7 +11,12 @@ use Rattle.partitions.specs.declared.Entry.{Entry}
 use Rattle.partitions.specs.declared.Settings.{Settings}
 use Rattle.partitions.specs.Table.{table_of}
 use Rattle.partitions.proofs.Tables.{Filled, filled_table}
-use Rattle.settings_layout.specs.Layout.{entry_from, entry_in, count_from, used_of, settings_of, settings_from}
+use Rattle.partitions.specs.Settings.{arch_from as of_flag}
+use Rattle.settings_layout.specs.Layout.{is_on, arch_from, entry_from, entry_in, count_from, used_of, settings_of, settings_from}
+
+-- the architecture by whether its byte is not 0
+pub arch_on : (x : ℕ) → of_flag (is_on x) ≡ arch_from x
+arch_on x = split (eqb x 0) (λ t. rw t) (λ f. rw f)
 
 -- the part of the bytes that the loop lends
 pub entry_part : (b : List ℕ) (k : ℕ) {e : Entry} → e ≡ entry_from (take (6 + k * 34 + 34 - (6 + k * 34)) (drop (6 + k * 34) b)) → e ≡ entry_in b k

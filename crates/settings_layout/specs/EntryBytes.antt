@@ -1,11 +1,15 @@
 -- One entry of the settings' table as bytes, 34 of them. Every number below is a byte, or a field of four (`field_at`). Assumes nothing.
-use Rattle.std.specs.Prelude.{ℕ, Bool, true, false, not, cond, List, [], ◌∷◌, ◌++◌, eqb, length, get_or}
+use Rattle.std.specs.Prelude.{ℕ, Bool, not, cond, List, [], ◌∷◌, ◌++◌, eqb, length, get_or}
 use Rattle.uf2_block.specs.Block.{field_at}
 use Rattle.uf2_block.specs.Write.{le32}
+-- a flag that is on is 1
+pub use Rattle.laws.specs.Packing.{bit as flag_byte}
 use Rattle.partitions.specs.declared.Link.{Link}
 use Rattle.partitions.specs.declared.Link.TheVariants.{Unlinked, OwnedBy, BOf}
 use Rattle.partitions.specs.declared.Entry.{Entry}
 use Rattle.partitions.specs.Settings.{link_target}
+-- the tag of a link
+pub use Rattle.partitions.specs.Settings.{link_kind as link_tag}
 
 -- the byte at an index, and 0 past the end
 abbrev pub byte_at : List ℕ → ℕ → ℕ
@@ -48,16 +52,6 @@ entry_from e =
     }
 
 -- ---- written
-
--- a flag that is on is 1
-abbrev pub flag_byte : Bool → ℕ
-flag_byte true = 1
-flag_byte false = 0
-
-abbrev pub link_tag : Link → ℕ
-link_tag Unlinked = 0
-link_tag (OwnedBy k) = 1
-link_tag (BOf k) = 2
 
 -- an entry's numbers: first sector, sectors and user families
 abbrev pub numbers_of : ℕ → ℕ → List ℕ → List ℕ

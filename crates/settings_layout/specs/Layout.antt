@@ -6,6 +6,8 @@ use Rattle.partitions.specs.declared.Arch.TheVariants.{Arm, RiscV}
 use Rattle.partitions.specs.declared.Entry.{Entry}
 use Rattle.partitions.specs.declared.Settings.{Settings}
 use Rattle.partitions.specs.Settings.{entry_at}
+-- "current architecture": 0 Arm, 1 RISC-V
+pub use Rattle.partitions.specs.Settings.{arch_number as arch_byte}
 use Rattle.partitions.specs.Table.{table_of}
 -- entries and transfers as bytes
 pub use Rattle.settings_layout.specs.EntryBytes.{byte_at, is_on, users_from, flag_byte, link_tag}
@@ -53,10 +55,6 @@ unfoldable pub settings_from : List ℕ → Settings
 settings_from b = settings_of b (table_of (entry_in b) (used_of (count_from b)))
 
 -- ---- written
-
-abbrev pub arch_byte : Arch → ℕ
-arch_byte Arm = 0
-arch_byte RiscV = 1
 
 -- the 34 bytes of entry k
 unfoldable pub row_bytes : List Entry → ℕ → List ℕ

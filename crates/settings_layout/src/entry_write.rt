@@ -1,55 +1,34 @@
 // One entry of the settings' table, written as bytes. include/uf2_receiver.h has the layout for C.
 ghost use Rattle.std.specs.Prelude.{◌≡◌, length};
 ghost use Rattle.laws.specs.Over.{over};
-ghost use Rattle.partitions.specs.Settings.{link_target};
-ghost use Rattle.settings_layout.specs.EntryBytes.{link_tag, numbers_of, flag_bytes, with_entry};
+ghost use Rattle.settings_layout.specs.EntryBytes.{numbers_of, flag_bytes, with_entry};
 
-use crate::entries::flag;
-use partitions::{Entry, Link};
+use crate::ENTRY;
+use partitions::Entry;
 
-// The bytes of an entry, and those of its numbers.
-const ENTRY: usize = 34;
-
+// The bytes of an entry's numbers.
 const NUMBERS: usize = 24;
 
-fn link_tag(link: Link) -> u8
-    ensures { result ≡ link_tag link }
-{
-    match link {
-        Link::Unlinked => 0,
-        Link::OwnedBy(_) => 1,
-        Link::BOf(_) => 2,
-    }
-}
-
-fn link_index(link: Link) -> u8
-    ensures { result ≡ link_target link }
-{
-    match link {
-        Link::Unlinked => 0,
-        Link::OwnedBy(k) => k,
-        Link::BOf(k) => k,
-    }
-}
-
+#[tactic(auto, using(partitions::proofs::Numbers::from_bit), unfolding(crate::specs::EntryBytes::flag_bytes))]
 fn flags(e: Entry) -> [u8; 10]
     ensures { result ≡ flag_bytes e }
 {
     let link = e.link;
     [
-        flag(e.data),
-        flag(e.arm_s),
-        flag(e.riscv),
-        flag(e.arm_ns),
+        u8::from(e.data),
+        u8::from(e.arm_s),
+        u8::from(e.riscv),
+        u8::from(e.arm_ns),
         e.user_count,
-        flag(e.not_bootable_arm),
-        flag(e.not_bootable_riscv),
-        link_tag(link),
-        link_index(link),
-        flag(e.no_restart),
+        u8::from(e.not_bootable_arm),
+        u8::from(e.not_bootable_riscv),
+        link.kind(),
+        link.index(),
+        u8::from(e.no_restart),
     ]
 }
 
+#[tactic(auto, using(crate::proofs::entry_write::Pieces::six_put))]
 fn put_numbers(bytes: &mut [u8], first: u32, sectors: u32, users: [u32; 4])
     requires { length bytes.old ≡ 34 }
     ensures { bytes.new ≡ over bytes.old 0 (numbers_of first sectors users) }

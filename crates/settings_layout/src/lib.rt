@@ -7,31 +7,23 @@ pub mod entry_write;
 ghost use Rattle.std.specs.Prelude.{◌≡◌, ◌≤◌, length};
 ghost use Rattle.laws.specs.Rows.{rows};
 ghost use Rattle.settings_layout.specs.Layout.{
-  arch_from,
   count_from,
   used_of,
   settings_from,
-  arch_byte,
   row_bytes,
   switch_bytes,
   with_settings,
 };
 
-use crate::entries::{byte, flag, on};
+use crate::entries::on;
 use partitions::{Arch, Entry, Settings};
 
 // The bytes of settings, those before their table, and those of an entry.
-const SETTINGS: usize = 550;
+pub const SETTINGS: usize = 550;
 
 const HEAD: usize = 6;
 
 const ENTRY: usize = 34;
-
-fn arch(x: u8) -> Arch
-    ensures { result ≡ arch_from x }
-{
-    if x == 0 { Arch::Arm } else { Arch::RiscV }
-}
 
 // Of bytes that are no settings: over 16, which is bad.
 pub fn count(bytes: &[u8]) -> u8
@@ -58,20 +50,17 @@ pub fn read_settings(bytes: &[u8]) -> Settings
 {
     let arm = on(bytes, 0);
     let riscv = on(bytes, 1);
-    let current = arch(byte(bytes, 2));
+    let current = Arch::from(on(bytes, 2));
     let auto_switch = on(bytes, 3);
     let absolute = on(bytes, 4);
     let count = count(bytes);
     let n = used(count);
     let blank = Entry::blank();
     let mut table = [blank; Settings::ENTRIES];
-    let mut k: usize = 0;
-    while k < n {
+    for k in 0..n {
         let from = HEAD + k * ENTRY;
         let to = from + ENTRY;
-        let e = crate::entries::entry(&bytes[from..to]);
-        table[k] = e;
-        k += 1;
+        table[k] = crate::entries::entry(&bytes[from..to]);
     }
     Settings {
         arm,
@@ -84,39 +73,29 @@ pub fn read_settings(bytes: &[u8]) -> Settings
     }
 }
 
-fn arch_byte(a: Arch) -> u8
-    ensures { result ≡ arch_byte a }
-{
-    match a {
-        Arch::Arm => 0,
-        Arch::RiscV => 1,
-    }
-}
-
+// Kept, no plainer: `write_rows` of settings_store copies arrays of 22 bytes behind a head, and this lends parts of 34 bytes to be written.
 fn write_table(bytes: &mut [u8], table: [Entry; Settings::ENTRIES])
     requires { length bytes.old ≡ 544 }
     ensures { bytes.new ≡ rows (row_bytes table) 16 }
 {
-    let mut k: usize = 0;
-    while k < Settings::ENTRIES {
+    for k in 0..Settings::ENTRIES {
         let from = ENTRY * k;
         let to = from + ENTRY;
         let e = table[k];
         crate::entry_write::write_entry(&mut bytes[from..to], e);
-        k += 1;
     }
 }
 
+#[tactic(auto, using(partitions::proofs::Numbers::from_bit, partitions::proofs::Numbers::from_arch), unfolding(crate::specs::Layout::switch_bytes))]
 fn switches(s: Settings) -> [u8; 6]
     ensures { result ≡ switch_bytes s }
 {
-    let current = s.current;
     [
-        flag(s.arm),
-        flag(s.riscv),
-        arch_byte(current),
-        flag(s.auto_switch),
-        flag(s.absolute),
+        u8::from(s.arm),
+        u8::from(s.riscv),
+        u8::from(s.current == Arch::RiscV),
+        u8::from(s.auto_switch),
+        u8::from(s.absolute),
         s.count,
     ]
 }

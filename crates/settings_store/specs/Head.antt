@@ -1,11 +1,11 @@
 -- The head of the packed store of settings (02, L5). Assumes nothing.
 use Rattle.std.specs.Prelude.{ℕ, Bool, cond, List, [], ◌∷◌, drop}
 use Rattle.laws.specs.Sets.{any}
-use Rattle.partitions.specs.declared.Arch.{Arch}
-use Rattle.partitions.specs.declared.Arch.TheVariants.{Arm, RiscV}
 use Rattle.partitions.specs.declared.Entry.{Entry}
 use Rattle.partitions.specs.declared.Settings.{Settings}
 use Rattle.partitions.specs.Settings.{entry_at}
+-- "current (1 is RISC-V)"
+pub use Rattle.partitions.specs.Settings.{arch_number as arch_bit}
 use Rattle.laws.specs.Packing.{bit}
 
 -- entry k has "don't restart"
@@ -19,10 +19,6 @@ version_of s = cond (any s.count (no_restart_at s.table)) 2 1
 -- "Head of 16 bits: version 4, count 5, auto switch, absolute, Arm, RISC-V, current (1 is RISC-V), two zeros."
 abbrev pub head_widths : List ℕ
 head_widths = 4 ∷ 5 ∷ 1 ∷ 1 ∷ 1 ∷ 1 ∷ 1 ∷ 2 ∷ []
-
-abbrev pub arch_bit : Arch → ℕ
-arch_bit Arm = 0
-arch_bit RiscV = 1
 
 unfoldable pub head_fields : Settings → List ℕ
 head_fields s =

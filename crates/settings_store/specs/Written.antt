@@ -1,6 +1,5 @@
 -- The packed store of settings (02, L5), written. Assumes nothing.
-use Rattle.std.specs.Prelude.{ℕ, ◌+◌, ◌*◌, Bool, ◌&&◌, cond, not, List, ◌++◌, length, ltb, leb}
-use Rattle.laws.specs.Sets.{any}
+use Rattle.std.specs.Prelude.{ℕ, ◌+◌, ◌*◌, cond, not, List, ◌++◌, length, ltb, Result, Ok, Err}
 use Rattle.laws.specs.Over.{over}
 use Rattle.laws.specs.Rows.{rows}
 use Rattle.memory.specs.Flash.{flash_length}
@@ -9,17 +8,13 @@ use Rattle.partitions.specs.declared.Settings.{Settings}
 use Rattle.partitions.specs.Settings.{entry_at, good_settings}
 use Rattle.laws.specs.Packing.{bytes_of}
 use Rattle.store_entry.specs.EntryBits.{packed_entry}
-use Rattle.settings_store.specs.declared.write.StoreAnswer.{StoreAnswer}
-use Rattle.settings_store.specs.declared.write.StoreAnswer.TheVariants.{BadBuffers, BadSettings, BadVersion, BadLength, BadBits, Good}
+use Rattle.settings_store.specs.declared.write.StoreError.{StoreError}
+use Rattle.settings_store.specs.declared.write.StoreError.TheVariants.{BadBuffers, BadSettings, BadVersion, BadLength, BadBits}
 -- the head
 pub use Rattle.settings_store.specs.Head.{head_widths, arch_bit}
 unfoldable pub use Rattle.settings_store.specs.Head.{no_restart_at, version_of, head_fields}
 
 -- ---- the store
-
--- one of the first n entries of a table of 16 has "don't restart"
-abbrev pub no_restart_in : List Entry → ℕ → Bool
-no_restart_in table n = leb n 16 && any n (no_restart_at table)
 
 -- the bytes of entry k
 unfoldable pub row_at : List Entry → ℕ → List ℕ
@@ -29,32 +24,36 @@ row_at table k = packed_entry (entry_at table k)
 unfoldable pub store_of : Settings → List ℕ
 store_of s = bytes_of head_widths 2 (head_fields s) ++ rows (row_at s.table) s.count
 
--- the numbers of the answers; settings that are read or written have 0
-abbrev pub store_number : StoreAnswer → ℕ
+-- the numbers of the refusals
+abbrev pub store_number : StoreError → ℕ
 store_number BadBuffers = 1
 store_number BadSettings = 2
 store_number BadVersion = 40
 store_number BadLength = 41
 store_number BadBits = 42
-store_number Good = 0
 
 -- ---- a call that writes
 
 -- what is answered, and what the output holds
 pub record WriteCall : Type 0 where
-  pub answer : StoreAnswer
+  pub answer : Result (Unit {0}) StoreError
   pub output : List ℕ
 
-abbrev pub write_call : StoreAnswer → List ℕ → WriteCall
+abbrev pub write_call : Result (Unit {0}) StoreError → List ℕ → WriteCall
 write_call x l = record { answer = x; output = l }
 
+-- the number of an answer; settings that are written have 0
+abbrev pub answer_number : Result (Unit {0}) StoreError → ℕ
+answer_number (Ok u) = 0
+answer_number (Err e) = store_number e
+
 abbrev pub write_number : WriteCall → ℕ
-write_number w = store_number w.answer
+write_number w = answer_number w.answer
 
 -- "Writing: 2, then 41 for too short a buffer, nothing written; bytes past the store stay."
 unfoldable pub write_of : Settings → ℕ → List ℕ → WriteCall
 write_of s len out =
-    cond (not (flash_length len)) (write_call BadBuffers out)
-    (cond (not (good_settings s len)) (write_call BadSettings out)
-    (cond (ltb (length out) (2 + 22 * s.count)) (write_call BadLength out)
-    (write_call Good (over out 0 (store_of s)))))
+    cond (not (flash_length len)) (write_call (Err BadBuffers) out)
+    (cond (not (good_settings s len)) (write_call (Err BadSettings) out)
+    (cond (ltb (length out) (2 + 22 * s.count)) (write_call (Err BadLength) out)
+    (write_call (Ok tt) (over out 0 (store_of s)))))

@@ -25,6 +25,6 @@ pub extern "C" fn uf2_stands(
         xip: xip.len(),
     };
     let known = call_bytes::known::known_from(settings, lens, Known::SEEN, Known::SECTORS, arrival);
-    let stand = uf2_verify::stands_known(known, arrival, flash, main, xip);
-    stand.number() as u32
+    let told = uf2_verify::stands_known(known, arrival, flash, main, xip);
+    uf2_verify::number(told) as u32
 }

@@ -1,17 +1,18 @@
 -- What is read of a part, by its length. Assumes nothing.
 use mathlib.Core.Path.{◌≡◌, ap, ◌∙◌}
-use mathlib.Core.Logic.{◌≢◌}
-use mathlib.Core.Bool.{Bool, true}
+use mathlib.Core.Bool.{Bool, true, false}
 use mathlib.Core.List.{List, [], ◌∷◌}
 use Prim.Native.Nat.{ℕ, suc, ◌<◌}
+use lib.Dec.{eqb}
 use lib.ListN.{length, get_or}
-use borrow.Author.Tests.{eq-eqb, ne_eqb}
+use borrow.Author.Tests.{eqb-true}
+use Rattle.std.specs.Prelude.{Some, None}
+use Rattle.laws.proofs.Tests.{split}
 use Rattle.partitions.specs.declared.Entry.{Entry}
 use Rattle.partitions.specs.Settings.{blank_entry}
 use Rattle.laws.specs.Packing.{octets, fields_of, Fit, none, one}
 use Rattle.store_entry.specs.declared.chunk_bits.Chunks.{Chunks}
-use Rattle.store_entry.specs.Chunks.{chunks_in}
-use Rattle.store_entry.proofs.chunk_bits.ReadBack.{read_whole}
+use Rattle.store_entry.specs.Chunks.{chunks_of, chunks_in}
 use Rattle.store_entry.specs.EntryBits.{entry_widths, entry_from, stray_from, entry_in, stray_in}
 use Rattle.store_entry.specs.Fields.{chunk_fields}
 use Rattle.store_entry.proofs.ReadBack.{entry_fields_lem}
@@ -28,22 +29,36 @@ part_fit n b e h = rw (← e) (bytes_fit b h)
 -- ---- a part
 
 module _ (b : List ℕ) where
-  pub entry_other : length b ≢ 22 → {e : Entry} → e ≡ blank_entry → e ≡ entry_in b
+  read_none : None ≡ chunks_in b → eqb (length b) 22 ≡ false
+  unfolding chunks_in
+  read_none h = split (eqb (length b) 22) (λ t. let z = rw t at h in cc) (λ f. f)
+
+  read_some : {c : Chunks} → Some c ≡ chunks_in b → (eqb (length b) 22 ≡ true) × (c ≡ chunks_of b)
+  unfolding chunks_in
+  read_some {c} h =
+      split (eqb (length b) 22)
+      (λ t. let z = rw t at h in (t, cc))
+      (λ f. let z = rw f at h in cc)
+
+  pub entry_other : None ≡ chunks_in b → {e : Entry} → e ≡ blank_entry → e ≡ entry_in b
   unfolding entry_in
-  entry_other h {e} q = q ∙ rw (ne_eqb (length b) 22 h)
+  entry_other h {e} q = q ∙ rw (read_none h)
 
-  pub stray_other : (version : ℕ) → length b ≢ 22 → true ≡ stray_in version b
+  pub stray_other : None ≡ chunks_in b → (version : ℕ) → true ≡ stray_in version b
   unfolding stray_in
-  stray_other version h = rw (ne_eqb (length b) 22 h)
+  stray_other h version = rw (read_none h)
 
-  module _ (n : length b ≡ 22) (low : (i : ℕ) → get_or b i 0 < 256) {c : Chunks} (k : c ≡ chunks_in b) where
+  module _ (low : (i : ℕ) → get_or b i 0 < 256) {c : Chunks} (k : Some c ≡ chunks_in b) where
+    whole : eqb (length b) 22 ≡ true
+    whole = (read_some k).0
+
     same : chunk_fields c ≡ fields_of entry_widths 22 b
-    same = ap chunk_fields (k ∙ read_whole b n) ∙ entry_fields_lem b (part_fit 22 b n low)
+    same = ap chunk_fields (read_some k).1 ∙ entry_fields_lem b (part_fit 22 b (eqb-true (length b) 22 whole) low)
 
     pub entry_part : {e : Entry} → e ≡ entry_from (chunk_fields c) → e ≡ entry_in b
     unfolding entry_in
-    entry_part {e} q = q ∙ ap entry_from same ∙ rw (eq-eqb (length b) 22 n)
+    entry_part {e} q = q ∙ ap entry_from same ∙ rw whole
 
     pub stray_part : (version : ℕ) {r : Bool} → r ≡ stray_from version (chunk_fields c) → r ≡ stray_in version b
     unfolding stray_in
-    stray_part version {r} q = q ∙ ap (stray_from version) same ∙ rw (eq-eqb (length b) 22 n)
+    stray_part version {r} q = q ∙ ap (stray_from version) same ∙ rw whole

@@ -1,6 +1,6 @@
 -- An entry's 22 bytes as six larger fields, as the code has them: what stands before the families, the families, and the last six bits.
 -- Assumes nothing.
-use Rattle.std.specs.Prelude.{ℕ, ◌+◌, ◌*◌, ◌/◌, ◌%◌, ◌≡◌, cond, List, [], ◌∷◌, eqb, length, get_or}
+use Rattle.std.specs.Prelude.{ℕ, ◌+◌, ◌*◌, ◌/◌, ◌%◌, ◌≡◌, cond, List, [], ◌∷◌, eqb, length, get_or, Option, Some, None}
 use Rattle.laws.specs.Packing.{packed, octets, bytes_of, fields_of, Fit}
 use Rattle.store_entry.specs.declared.chunk_bits.Chunks.{Chunks}
 
@@ -21,9 +21,9 @@ chunks_of bs =
       tail = get_or (fields_of chunk_widths 22 bs) 5 0;
     }
 
--- of 22 bytes; of another length, zeros
-unfoldable pub chunks_in : List ℕ → Chunks
-chunks_in b = cond (eqb (length b) 22) (chunks_of b) (record { h = 0; u = 0; v = 0; w = 0; x = 0; tail = 0 })
+-- of 22 bytes; of another length, none
+unfoldable pub chunks_in : List ℕ → Option Chunks
+chunks_in b = cond (eqb (length b) 22) (Some (chunks_of b)) None
 
 -- n bytes, joined to a number
 pub record Joined (n : ℕ) (bs : List ℕ) (x : ℕ) : Type 0 where

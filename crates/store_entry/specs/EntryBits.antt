@@ -4,20 +4,11 @@ use Rattle.partitions.specs.declared.Entry.{Entry}
 use Rattle.partitions.specs.declared.Link.{Link}
 use Rattle.partitions.specs.declared.Link.TheVariants.{Unlinked, OwnedBy, BOf}
 use Rattle.partitions.specs.Settings.{blank_entry}
+-- "link kind 2 (none, owned, B), index 4"; "unlinked indexes are zero"
+pub use Rattle.partitions.specs.Settings.{link_kind as kind_of, link_target as index_of}
 use Rattle.laws.specs.Packing.{bytes_of, fields_of, bit, on}
 
 -- ---- written
-
--- "link kind 2 (none, owned, B), index 4"; "unlinked indexes are zero"
-abbrev pub kind_of : Link → ℕ
-kind_of Unlinked = 0
-kind_of (OwnedBy k) = 1
-kind_of (BOf k) = 2
-
-abbrev pub index_of : Link → ℕ
-index_of Unlinked = 0
-index_of (OwnedBy k) = k
-index_of (BOf k) = k
 
 -- user family k; "unused slots .. are zero"
 unfoldable pub slot : Entry → ℕ → ℕ

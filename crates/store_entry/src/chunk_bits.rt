@@ -1,57 +1,10 @@
 // The 22 bytes of an entry of the packed store as six larger fields: what stands before the user families, the families, and the last six bits.
-ghost use Rattle.std.specs.Prelude.{◌≡◌, [], ◌∷◌, ◌<◌, ◌^◌, ◌%◌, length};
+ghost use Rattle.std.specs.Prelude.{◌≡◌, [], ◌∷◌, ◌+◌, ◌*◌, ◌/◌, ◌<◌, ◌^◌, ◌%◌, length};
+ghost use Rattle.std.specs.Int.{w32, to_be_bytes};
 ghost use Rattle.store_entry.specs.Chunks.{Joined, chunk_bytes, chunks_of, chunks_in, regrouped};
 
 // The bytes of an entry.
-const ENTRY: usize = 22;
-
-// Fields of 42, 32, 32, 32, 32 and 6 bits as bytes.
-fn bytes_of(h: u64, s: u32, t: u32, y: u32, z: u32, tail: u64) -> [u8; 22]
-    requires { (h < 2 ^ 42) × (tail < 64) }
-    ensures { result ≡ chunk_bytes h s t y z tail }
-{
-    let u = s as u64;
-    let v = t as u64;
-    let w = y as u64;
-    let x = z as u64;
-    let a = h / 4;
-    let b = h % 4 * 1073741824 + u / 4;
-    let c = u % 4 * 1073741824 + v / 4;
-    let d = v % 4 * 1073741824 + w / 4;
-    let e = w % 4 * 1073741824 + x / 4;
-    let f = x % 4 * 64 + tail;
-    [
-        (a / 4294967296 % 256) as u8,
-        (a / 16777216 % 256) as u8,
-        (a / 65536 % 256) as u8,
-        (a / 256 % 256) as u8,
-        (a % 256) as u8,
-        (b / 16777216 % 256) as u8,
-        (b / 65536 % 256) as u8,
-        (b / 256 % 256) as u8,
-        (b % 256) as u8,
-        (c / 16777216 % 256) as u8,
-        (c / 65536 % 256) as u8,
-        (c / 256 % 256) as u8,
-        (c % 256) as u8,
-        (d / 16777216 % 256) as u8,
-        (d / 65536 % 256) as u8,
-        (d / 256 % 256) as u8,
-        (d % 256) as u8,
-        (e / 16777216 % 256) as u8,
-        (e / 65536 % 256) as u8,
-        (e / 256 % 256) as u8,
-        (e % 256) as u8,
-        f as u8,
-    ]
-}
-
-// The bytes of six fields. A number that is too large for its field is kept to the field's width.
-pub fn write(h: u64, s: u32, t: u32, y: u32, z: u32, tail: u64) -> [u8; 22]
-    ensures { result ≡ chunk_bytes (h % 4398046511104) s t y z (tail % 64) }
-{
-    bytes_of(h % 4398046511104, s, t, y, z, tail % 64)
-}
+pub const ENTRY: usize = 22;
 
 // Fields of 42, 32, 32, 32, 32 and 6 bits.
 #[derive(Clone, Copy)]
@@ -64,20 +17,54 @@ pub struct Chunks {
     pub tail: u8,
 }
 
+// The last two bits of a field and the first 30 of the next.
+fn middle(x: u32, y: u32) -> [u8; 4]
+    ensures { result ≡ to_be_bytes w32 (x % 4 * 1073741824 + y / 4) }
+{
+    (x % 4 * 1073741824 + y / 4).to_be_bytes()
+}
+
+// The bytes of fields that fit.
+fn bytes_of(c: Chunks) -> [u8; 22]
+    requires { (c.h < 2 ^ 42) × (c.tail < 64) }
+    ensures { result ≡ chunk_bytes c.h c.u c.v c.w c.x c.tail }
+{
+    let a = (c.h / 4).to_be_bytes();
+    let b = middle((c.h % 4) as u32, c.u);
+    let d = middle(c.u, c.v);
+    let e = middle(c.v, c.w);
+    let f = middle(c.w, c.x);
+    let last = (c.x % 4) as u8 * 64 + c.tail;
+    let mut bytes = [last; ENTRY];
+    bytes[..5].copy_from_slice(&a[3..]);
+    bytes[5..9].copy_from_slice(&b);
+    bytes[9..13].copy_from_slice(&d);
+    bytes[13..17].copy_from_slice(&e);
+    bytes[17..21].copy_from_slice(&f);
+    bytes
+}
+
+// The bytes of six fields. A number that is too large for its field is kept to the field's width.
+pub fn write(c: Chunks) -> [u8; 22]
+    ensures { result ≡ chunk_bytes (c.h % 4398046511104) c.u c.v c.w c.x (c.tail % 64) }
+{
+    bytes_of(Chunks {
+        h: c.h % 4398046511104,
+        tail: c.tail % 64,
+        ..c
+    })
+}
+
 fn join4(a: u8, b: u8, c: u8, d: u8) -> u64
     ensures { Joined 4 (a ∷ b ∷ c ∷ d ∷ []) result }
 {
-    (a as u64) * 16777216 + (b as u64) * 65536 + (c as u64) * 256 + (d as u64)
+    u64::from(u32::from_be_bytes([a, b, c, d]))
 }
 
 fn join5(a: u8, b: u8, c: u8, d: u8, e: u8) -> u64
     ensures { Joined 5 (a ∷ b ∷ c ∷ d ∷ e ∷ []) result }
 {
-    (a as u64) * 4294967296
-        + (b as u64) * 16777216
-        + (c as u64) * 65536
-        + (d as u64) * 256
-        + (e as u64)
+    u64::from_be_bytes([0, 0, 0, a, b, c, d, e])
 }
 
 fn regroup(a: u64, b: u64, c: u64, d: u64, e: u64, f: u8) -> Chunks
@@ -89,7 +76,7 @@ fn regroup(a: u64, b: u64, c: u64, d: u64, e: u64, f: u8) -> Chunks
         u: (b % 1073741824 * 4 + c / 1073741824) as u32,
         v: (c % 1073741824 * 4 + d / 1073741824) as u32,
         w: (d % 1073741824 * 4 + e / 1073741824) as u32,
-        x: (e % 1073741824 * 4 + (f as u64) / 64) as u32,
+        x: (e % 1073741824 * 4 + u64::from(f) / 64) as u32,
         tail: f % 64,
     }
 }
@@ -107,19 +94,13 @@ fn chunks_in(s: &[u8]) -> Chunks
     regroup(a, b, c, d, e, f)
 }
 
-// The fields of 22 bytes; of another length, zeros.
-pub fn read(bytes: &[u8]) -> Chunks
+// The fields of 22 bytes; of another length, none.
+#[tactic(auto, unfolding(crate::specs::Chunks::chunks_in))]
+pub fn read(bytes: &[u8]) -> Option<Chunks>
     ensures { result ≡ chunks_in bytes.now }
 {
     if bytes.len() != ENTRY {
-        return Chunks {
-            h: 0,
-            u: 0,
-            v: 0,
-            w: 0,
-            x: 0,
-            tail: 0,
-        };
+        return None;
     }
-    chunks_in(bytes)
+    Some(chunks_in(bytes))
 }

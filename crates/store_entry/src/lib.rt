@@ -2,7 +2,6 @@
 #![tactic(auto)]
 
 pub mod chunk_bits;
-pub mod small_fields;
 pub mod stray;
 pub mod write;
 
@@ -13,21 +12,18 @@ ghost use Rattle.store_entry.specs.Fields.{chunk_fields};
 use crate::chunk_bits::Chunks;
 use partitions::{Entry, Link};
 
-// The bytes of an entry.
-const ENTRY: usize = 22;
-
+#[tactic(auto, unfolding(crate::specs::EntryBits::link_of))]
 fn link_of(kind: u64, k: u8) -> Link
     ensures { result ≡ link_of kind k }
 {
-    if kind == 1 {
-        return Link::OwnedBy(k);
+    match kind {
+        1 => Link::OwnedBy(k),
+        2 => Link::BOf(k),
+        _ => Link::Unlinked,
     }
-    if kind == 2 {
-        return Link::BOf(k);
-    }
-    Link::Unlinked
 }
 
+#[tactic(auto, unfolding(crate::specs::EntryBits::entry_from, crate::specs::Fields::chunk_fields, laws::specs::Packing::unpacked, laws::specs::Packing::total))]
 fn entry_of(c: Chunks) -> Entry
     ensures { result ≡ entry_from (chunk_fields c) }
 {
@@ -41,7 +37,7 @@ fn entry_of(c: Chunks) -> Entry
         arm_s: h / 128 % 2 == 1,
         riscv: h / 64 % 2 == 1,
         arm_ns: h / 32 % 2 == 1,
-        user_count: (h / 1 % 8) as u8,
+        user_count: (h % 8) as u8,
         not_bootable_arm: h / 16 % 2 == 1,
         not_bootable_riscv: h / 8 % 2 == 1,
         link,
@@ -53,8 +49,8 @@ fn entry_of(c: Chunks) -> Entry
 pub fn unpack(bytes: &[u8]) -> Entry
     ensures { result ≡ entry_in bytes.now }
 {
-    if bytes.len() != ENTRY {
-        return Entry::blank();
+    match crate::chunk_bits::read(bytes) {
+        Some(c) => entry_of(c),
+        None => Entry::blank(),
     }
-    entry_of(crate::chunk_bits::read(bytes))
 }

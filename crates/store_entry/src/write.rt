@@ -2,9 +2,11 @@
 ghost use Rattle.std.specs.Prelude.{◌≡◌, ◌+◌, ◌*◌, ◌<◌};
 ghost use Rattle.store_entry.specs.EntryBits.{slot, packed_entry};
 
+use crate::chunk_bits::Chunks;
 use partitions::Entry;
 
 // User family k, or 0 in a slot that is not used.
+#[tactic(auto, unfolding(crate::specs::EntryBits::slot))]
 fn slot_of(e: Entry, k: usize) -> u32
     requires { k < 4 }
     ensures { result ≡ slot e k }
@@ -41,24 +43,25 @@ pub fn pack(e: Entry) -> [u8; 22]
     let h = lead(
         first % 8192,
         sectors % 16384,
-        crate::small_fields::kind_of(link),
-        crate::small_fields::index_of(link) % 16,
+        u64::from(link.kind()),
+        u64::from(link.index()) % 16,
     );
     let m = marks(
-        crate::small_fields::bit_of(e.data),
-        crate::small_fields::bit_of(e.arm_s),
-        crate::small_fields::bit_of(e.riscv),
-        crate::small_fields::bit_of(e.arm_ns),
-        crate::small_fields::bit_of(e.not_bootable_arm),
-        crate::small_fields::bit_of(e.not_bootable_riscv),
+        u64::from(e.data),
+        u64::from(e.arm_s),
+        u64::from(e.riscv),
+        u64::from(e.arm_ns),
+        u64::from(e.not_bootable_arm),
+        u64::from(e.not_bootable_riscv),
         users % 8,
     );
-    crate::chunk_bits::write(
-        h * 512 + m,
-        slot_of(e, 0),
-        slot_of(e, 1),
-        slot_of(e, 2),
-        slot_of(e, 3),
-        crate::small_fields::last_six(e.no_restart),
-    )
+    crate::chunk_bits::write(Chunks {
+        h: h * 512 + m,
+        u: slot_of(e, 0),
+        v: slot_of(e, 1),
+        w: slot_of(e, 2),
+        x: slot_of(e, 3),
+        // "don't restart", and five zeros
+        tail: u8::from(e.no_restart) * 32,
+    })
 }

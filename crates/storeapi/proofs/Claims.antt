@@ -18,7 +18,7 @@ use Rattle.settings_layout.proofs.entries.Entries.{Typed}
 use Rattle.settings_layout.proofs.Written.{settings_back}
 use Rattle.store_entry.specs.EntryBits.{slot, neat_entry}
 use Rattle.store_entry.proofs.OneEntry.{Fits}
-use Rattle.settings_store.specs.declared.write.StoreAnswer.TheVariants.{Good}
+use Rattle.std.specs.Prelude.{Ok}
 use Rattle.settings_store.specs.Store.{store_of, write_call, write_of}
 use Rattle.settings_store.proofs.write.Cases.{write_good}
 use Rattle.settings_claims.specs.Claims.{neat_at, neat}
@@ -95,7 +95,7 @@ module _ (b : List ℕ) (len : ℕ) (s : Settings) (h : Reads b len s) where
   length_store : length b ≡ 2 + 22 * s.count
   length_store = ap length (sym known.encoded) ∙ store_length s few (good_fields s len known.right known.good) known.narrow
 
-  again : (out : List ℕ) → length out ≡ length b → write_of s len out ≡ write_call Good b
+  again : (out : List ℕ) → length out ≡ length b → write_of s len out ≡ write_call (Ok tt) b
   again out e =
       let n = length_store in
       let store : over out 0 (store_of s) ≡ b = ap (over out 0) known.encoded ∙ over_whole out b (sym e) in

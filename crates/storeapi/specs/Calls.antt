@@ -1,8 +1,8 @@
 -- What the calls about stores answer and leave. Assumes nothing.
-use Rattle.std.specs.Prelude.{ℕ, cond, List, eqb, length}
+use Rattle.std.specs.Prelude.{ℕ, cond, List, eqb, length, Result, Ok, Err}
 use Rattle.partitions.specs.declared.Settings.{Settings}
 use Rattle.settings_layout.specs.Layout.{settings_from, with_settings}
-use Rattle.settings_store.specs.declared.Reading.{Reading}
+use Rattle.settings_store.specs.declared.write.StoreError.{StoreError}
 use Rattle.settings_store.specs.Store.{read_of, read_number, WriteCall, write_of, write_number}
 
 -- what is returned, and what the slice that may be written holds
@@ -16,13 +16,14 @@ store_call n l = record { result = n; written = l }
 
 -- ---- reading
 
--- settings where the number is 0; a refusal leaves the bytes: it "returns no settings"
-unfoldable pub kept_settings : List ℕ → ℕ → Settings → List ℕ
-kept_settings l n s = cond (eqb n 0) (with_settings l s) l
+-- the settings that are read; a refusal leaves the bytes: it "returns no settings"
+unfoldable pub kept_settings : List ℕ → Result Settings StoreError → List ℕ
+kept_settings l (Ok s) = with_settings l s
+kept_settings l (Err e) = l
 
 -- what is told of a reading
-unfoldable pub told_of : List ℕ → Reading → StoreCall
-told_of l r = store_call (read_number r) (kept_settings l (read_number r) r.settings)
+unfoldable pub told_of : List ℕ → Result Settings StoreError → StoreCall
+told_of l r = store_call (read_number r) (kept_settings l r)
 
 -- 1 too where the settings have not 550 bytes
 unfoldable pub store_read_call : List ℕ → ℕ → List ℕ → StoreCall

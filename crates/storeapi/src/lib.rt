@@ -2,35 +2,27 @@
 #![tactic(auto)]
 
 ghost use Rattle.std.specs.Prelude.{◌≡◌};
-ghost use Rattle.storeapi.specs.Calls.{store_call, kept_settings, told_of, store_read_call, store_write_call};
+ghost use Rattle.storeapi.specs.Calls.{store_call, told_of, store_read_call, store_write_call};
 
 use partitions::Settings;
-use settings_store::Reading;
+use settings_layout::SETTINGS;
+use settings_store::write::StoreError;
 
-// The bytes of settings.
-const SETTINGS: usize = 550;
-
-// The settings that were read, where the answer's number is none of a refusal.
-fn keep(settings: &mut [u8], number: u32, s: Settings)
-    ensures { settings.new ≡ kept_settings settings.old number s }
+// Writes the settings that were read. A refusal leaves the bytes.
+fn tell(read: Result<Settings, StoreError>, settings: &mut [u8]) -> u32
+    ensures { store_call result settings.new ≡ told_of settings.old read }
 {
-    if number == 0 {
-        settings_layout::write_settings(settings, s);
+    match read {
+        Ok(s) => {
+            settings_layout::write_settings(settings, s);
+            0
+        }
+        Err(refusal) => u32::from(refusal.number()),
     }
 }
 
-// Writes the settings that were read.
-fn tell(reading: Reading, settings: &mut [u8]) -> u32
-    ensures { store_call result settings.new ≡ told_of settings.old reading }
-{
-    let answer = reading.answer;
-    let n = answer.number() as u32;
-    let s = reading.settings;
-    keep(settings, n, s);
-    n
-}
-
 // The settings of a store: 0 and the settings in `settings`, or the number of a refusal.
+// Kept, C interface: `uf2_tag_find` has the same shape for another value.
 #[unsafe(no_mangle)]
 pub extern "C" fn uf2_store_read(store: &[u8], flash_len: usize, settings: &mut [u8]) -> u32
     ensures { store_call result settings.new ≡ store_read_call store.now flash_len settings.old }
@@ -47,6 +39,8 @@ pub extern "C" fn uf2_store_write(settings: &[u8], flash_len: usize, store: &mut
     ensures { store_call result store.new ≡ store_write_call settings.now flash_len store.old }
 {
     let s = settings_layout::read_settings(settings);
-    let answer = settings_store::write::write(s, flash_len, store);
-    answer.number() as u32
+    match settings_store::write::write(s, flash_len, store) {
+        Ok(()) => 0,
+        Err(e) => u32::from(e.number()),
+    }
 }

@@ -13,9 +13,8 @@ use Rattle.uf2_block.specs.Block.{field_at}
 use Rattle.uf2_block.specs.Write.{le32, put_at}
 use Rattle.uf2_block.proofs.WriteLaws.{put_over, put_after, field_le32}
 use Rattle.uf2_tags.specs.declared.one_tag.Tag.{Tag}
-use Rattle.uf2_tags.specs.declared.one_tag.Answer.{Answer}
-use Rattle.uf2_tags.specs.declared.one_tag.Answer.TheVariants.{Tag as a-tag}
-use Rattle.uf2_tags.specs.Tag.{tag_of, answer_number, is_tag}
+use Rattle.std.specs.Prelude.{Ok, Some}
+use Rattle.uf2_tags.specs.Tag.{Answer, tag_of, answer_number, is_tag}
 use Rattle.uf2_tags.proofs.one_tag.Laws.{on_other}
 use Rattle.uf2_tags.specs.Room.{tag_at}
 use Rattle.uf2_tags.proofs.room.Laws.{tag_here, room_end_lem}
@@ -67,7 +66,7 @@ tag_back kind start len next p q r s = (
 pub other_told_lem : (l : List ℕ) (a : Answer) {n : ℕ} → is_tag a ≡ false → n ≡ answer_number a → tag_call n l ≡ tag_call_of l a
 other_told_lem l a h e = rw (e, on_other l (λ (t : Tag). tag_bytes t.kind t.start t.len t.next) a h)
 
-pub tag_told : (l b : List ℕ) (a : Answer) (t : Tag) {n : ℕ} → b ≡ tag_bytes t.kind t.start t.len t.next → a ≡ a-tag t → n ≡ answer_number a → tag_call n b ≡ tag_call_of l a
+pub tag_told : (l b : List ℕ) (a : Answer) (t : Tag) {n : ℕ} → b ≡ tag_bytes t.kind t.start t.len t.next → a ≡ Ok (Some t) → n ≡ answer_number a → tag_call n b ≡ tag_call_of l a
 tag_told l b a t q e h = rw (h, q, e)
 
 module _ (b : List ℕ) (n : ℕ) (l : List ℕ) where

@@ -1,10 +1,8 @@
 -- What the calls about tags answer and leave. Assumes nothing.
-use Rattle.std.specs.Prelude.{ℕ, ◌<◌, ◌^◌, ◌≡◌, cond, List, ◌++◌, eqb, length}
+use Rattle.std.specs.Prelude.{ℕ, ◌<◌, ◌^◌, ◌≡◌, cond, List, ◌++◌, eqb, length, Ok, Some}
 use Rattle.uf2_block.specs.Write.{le32}
 use Rattle.uf2_tags.specs.declared.one_tag.Tag.{Tag}
-use Rattle.uf2_tags.specs.declared.one_tag.Answer.{Answer}
-use Rattle.uf2_tags.specs.declared.one_tag.Answer.TheVariants.{Tag as a-tag}
-use Rattle.uf2_tags.specs.Tag.{answer_number, on_tag}
+use Rattle.uf2_tags.specs.Tag.{Answer, answer_number, on_tag}
 use Rattle.uf2_tags.specs.Room.{tag_at}
 use Rattle.uf2_tags.specs.Search.{find_of}
 
@@ -27,7 +25,7 @@ tag_call_of l a = tag_call (answer_number a) (on_tag l (λ (t : Tag). tag_bytes 
 
 -- the places of a tag fit 32 bits, as those of every tag that is found do (proofs/Laws.antt)
 abbrev pub Low : Answer → Type 0
-Low a = (t : Tag) → a ≡ a-tag t → (t.start < 2 ^ 32) × (t.next < 2 ^ 32)
+Low a = (t : Tag) → a ≡ Ok (Some t) → (t.start < 2 ^ 32) × (t.next < 2 ^ 32)
 
 -- 1 too where `tag` has not 16 bytes
 unfoldable pub tag_at_call : List ℕ → ℕ → List ℕ → TagCall

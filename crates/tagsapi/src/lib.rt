@@ -5,7 +5,7 @@ ghost use Rattle.std.specs.Prelude.{◌≡◌, length};
 ghost use Rattle.uf2_tags.specs.Room.{first_place};
 ghost use Rattle.tagsapi.specs.Calls.{Low, tag_bytes, tag_call, tag_call_of, tag_at_call, tag_find_call};
 
-use uf2_tags::one_tag::Answer;
+use uf2_tags::one_tag::{Answer, number};
 
 // The bytes of a tag: type, start, length and next place.
 const TAG: usize = 16;
@@ -26,11 +26,11 @@ fn tell(answer: Answer, tag: &mut [u8]) -> u32
     requires low { Low answer }
     ensures { tag_call result tag.new ≡ tag_call_of tag.old answer }
 {
-    let n = answer.number() as u32;
-    let Answer::Tag(t) = answer else {
+    let n = u32::from(number(answer));
+    let Ok(Some(t)) = answer else {
         return n;
     };
-    write(tag, t.kind, t.start as u32, t.len as u32, t.next as u32);
+    write(tag, t.kind, t.start as u32, u32::from(t.len), t.next as u32);
     n
 }
 
@@ -54,6 +54,7 @@ pub extern "C" fn uf2_tag(block: &[u8], place: usize, tag: &mut [u8]) -> u32
 }
 
 // The first tag of a type: 0 and the tag in `tag`, or the number of the end or of the refusal before any.
+// Kept, C interface: `uf2_store_read` has the same shape for another value.
 #[unsafe(no_mangle)]
 pub extern "C" fn uf2_tag_find(block: &[u8], kind: u32, tag: &mut [u8]) -> u32
     ensures { tag_call result tag.new ≡ tag_find_call block.now kind tag.old }

@@ -18,10 +18,7 @@ fn put_reader_state(out: &mut [u8; 128], state: ReaderState) -> usize
         ReaderState::Inside(_) => crate::put(out, 0, b"state inside"),
         ReaderState::Padded(_) => crate::put(out, 0, b"state padded"),
         ReaderState::Ended => crate::put(out, 0, b"state ended"),
-        ReaderState::Failed(failure) => {
-            let answer = failure.answer;
-            crate::hex_answer::put_failed(out, answer)
-        }
+        ReaderState::Failed(failure) => crate::hex_answer::put_failed(out, failure.answer),
     }
 }
 
@@ -31,13 +28,12 @@ pub fn hex_state_line(out: &mut [u8; 128], reader: Reader) -> usize
     ensures out_after { out.new ≡ over out.old 0 (hex_state_line reader) }
     ensures prefix_len { IsPrefixLen result out.new }
 {
-    let state = reader.state;
     let v1 = crate::flag(reader.data_seen.v1);
     let v2 = crate::flag(reader.data_seen.v2);
     let text = [
         b' ', b'v', b'1', b' ', v1, b' ', b'v', b'2', b' ', v2, b'\n',
     ];
-    let a = put_reader_state(out, state);
+    let a = put_reader_state(out, reader.state);
     let b = crate::put(out, a, b" offset ");
     let c = crate::put_decimal(out, b, reader.offset as u64);
     crate::put(out, c, &text)

@@ -9,6 +9,7 @@ ghost use Rattle.std.specs.Prelude.{◌≡◌, cond, length};
 ghost use Rattle.laws.specs.Over.{over};
 ghost use Rattle.text.specs.Parts.{end_of, put_part, decimal_of, pair_text};
 
+// Kept, contract: the array with a length beside: each line is always put whole; a `Display`'s `output` is promised on `Ok` alone.
 // Puts a part at an index, and answers the index after it. Where it does not fit, nothing is put, and the answer is the index.
 pub fn put(out: &mut [u8], at: usize, part: &[u8]) -> usize
     ensures value { result ≡ end_of out.old at part.now }
@@ -39,7 +40,7 @@ pub fn put_decimal(out: &mut [u8], at: usize, n: u64) -> usize
 pub fn flag(b: bool) -> u8
     ensures { result ≡ cond b 49 48 }
 {
-    if b { 49 } else { 48 }
+    b'0' + u8::from(b)
 }
 
 // An index and an answer, with a space between.

@@ -33,13 +33,13 @@ fn counts_line(out: &mut [u8; 80], name: &[u8], total: u32, seen: u32) -> usize
 }
 
 // The last line.
+#[tactic(auto, unfolding(crate::specs::Lines::state_line))]
 pub fn state_line(out: &mut [u8; 80], transfer: Transfer) -> usize
     ensures value { result ≡ length (state_line transfer.state) }
     ensures out_after { out.new ≡ over out.old 0 (state_line transfer.state) }
     ensures prefix_len { IsPrefixLen result out.new }
 {
-    let state = transfer.state;
-    match state {
+    match transfer.state {
         State::Idle => counts_line(out, b"state idle", 0, 0),
         State::Running(run) => counts_line(out, b"state running", run.head.total, run.count),
         State::Done(head) => counts_line(out, b"state done", head.total, head.total),

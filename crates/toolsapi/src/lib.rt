@@ -8,6 +8,9 @@ ghost use Rattle.uf2_make.specs.Uf2check.{check_of, make_number};
 ghost use Rattle.toolsapi.specs.Tools.{make_result, make_bytes, make_regions_bytes, digest_over};
 ghost use Rattle.toolsapi.specs.Join.{join_return, join_bytes};
 
+use uf2_make::checks;
+use uf2_make::lead::Fields;
+
 const DIGEST: usize = 16;
 
 // What would come of an image of so many bytes: 0, or 50 to 53.
@@ -15,7 +18,7 @@ const DIGEST: usize = 16;
 pub extern "C" fn uf2_make_check(image_len: usize, start: u32, output_len: usize) -> u32
     ensures { result ≡ make_number (check_of image_len start output_len) }
 {
-    uf2_make::checks::check(image_len, start, output_len).number() as u32
+    u32::from(checks::number(checks::check(image_len, start, output_len)))
 }
 
 // One block of a file, for a tool that makes it page by page.
@@ -30,7 +33,13 @@ pub extern "C" fn uf2_make_block(
 )
     ensures { block.new ≡ block_over block.old address number total family page.now }
 {
-    uf2_make::page_block::write_block(block, address, number, total, family, page);
+    let fields = Fields {
+        address,
+        number,
+        total,
+        family,
+    };
+    uf2_make::page_block::write_block(block, fields, page);
 }
 
 // The whole file of an image: 0, or 50 to 53 and nothing is written.
@@ -38,7 +47,7 @@ pub extern "C" fn uf2_make_block(
 pub extern "C" fn uf2_make(image: &[u8], family: u32, start: u32, output: &mut [u8]) -> u32
     ensures { make_result result output.new ≡ make_bytes image.now family start output.old }
 {
-    uf2_make::make(image, family, start, output).number() as u32
+    u32::from(checks::number(uf2_make::make(image, family, start, output)))
 }
 
 // The same, and each block names its sector as its region.
@@ -46,7 +55,7 @@ pub extern "C" fn uf2_make(image: &[u8], family: u32, start: u32, output: &mut [
 pub extern "C" fn uf2_make_regions(image: &[u8], family: u32, start: u32, output: &mut [u8]) -> u32
     ensures { make_result result output.new ≡ make_regions_bytes image.now family start output.old }
 {
-    uf2_make_regions::make(image, family, start, output).number() as u32
+    u32::from(checks::number(uf2_make_regions::make(image, family, start, output)))
 }
 
 // The MD5 digest of bytes, where there are 16 bytes for it.

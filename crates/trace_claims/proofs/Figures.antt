@@ -4,6 +4,7 @@ use mathlib.Core.Path.{◌≡◌, refl, sym, ap, subst, ◌∙◌}
 use mathlib.Core.Bool.{Bool, true, false}
 use mathlib.Core.List.{List, [], ◌∷◌, map}
 use native.Mathlib.Omega.{arith}
+use Rattle.std.specs.Prelude.{Option, Result, Ok, Err}
 use lib.Dec.{leb, eqb}
 use lib.ListN.{length, get_or, length-append, get_or-replicate}
 use borrow.Author.Tests.{leb-true, leb-false, le-leb, lt-leb, eqb-true, eq-eqb}
@@ -16,8 +17,8 @@ use Rattle.arrival.specs.Lists.{answers_of, discards_of}
 use Rattle.trace_replay.specs.Replay.{begun, replay_of}
 use Rattle.trace_piece.specs.declared.Stop.{Stop}
 use Rattle.trace_counts.specs.declared.Report.{Report}
-use Rattle.trace_report.specs.declared.adding.FiguresAnswer.{FiguresAnswer}
-use Rattle.trace_report.specs.declared.adding.FiguresAnswer.TheVariants.{BadReport, TooMany, Replayed}
+use Rattle.trace_counts.specs.declared.ReportError.{ReportError}
+use Rattle.trace_counts.specs.declared.ReportError.TheVariants.{BadReport, TooMany}
 use Rattle.trace_counts.specs.Counts.{fresh_report, sum_to, good_report, with_room, count_all}
 use Rattle.trace_report.specs.Report.{added_to, FiguresOutcome, figures_outcome, figures_number, add_of}
 use Rattle.trace_report.proofs.adding.Adds.{replay_count}
@@ -53,13 +54,13 @@ module _ (r : Report) (s : Settings) (h : Lent) (t : List ℕ) where
 
   -- the outcome of a trace that is replayed
   abbrev full : FiguresOutcome
-  full = figures_outcome (Replayed (replay_of s h t).stop) (added_to r s h t) (lent_of (replay_of s h t).world)
+  full = figures_outcome (Ok (replay_of s h t).stop) (added_to r s h t) (lent_of (replay_of s h t).world)
 
-  is_bad_lem : good_report r ≡ false → call ≡ figures_outcome BadReport r h
+  is_bad_lem : good_report r ≡ false → call ≡ figures_outcome (Err BadReport) r h
   unfolding add_of
   is_bad_lem g = rw g
 
-  is_many : good_report r ≡ true → room ≡ false → call ≡ figures_outcome TooMany r h
+  is_many : good_report r ≡ true → room ≡ false → call ≡ figures_outcome (Err TooMany) r h
   unfolding add_of
   is_many g m = rw (g, m)
 
@@ -95,7 +96,7 @@ module _ (r : Report) (s : Settings) (h : Lent) (t : List ℕ) where
       (λ g. split room (λ m. (g, m)) (λ m. absurd (omega (arith, number_many g m))))
       (λ g. absurd (omega (arith, number_bad g)))
 
-  if_replayed : {x : Stop} → call.answer ≡ Replayed x → call ≡ full
+  if_replayed : {x : Option Stop} → call.answer ≡ Ok x → call ≡ full
   if_replayed e = let b = if_0 (ap figures_number e) in is_full b.0 b.1
 
   room_few : room ≡ true → r.records + length t / 513 ≤ 4294967295
@@ -148,7 +149,7 @@ refusals_leave_all r s h t n =
     (λ m. left (is_many r s h t g m)))
     (λ g. left (is_bad_lem r s h t g))
   where
-    left : {x : FiguresAnswer} → add_of r s h t ≡ figures_outcome x r h → ((add_of r s h t).report ≡ r) × ((add_of r s h t).lent ≡ h)
+    left : {x : Result (Option Stop) ReportError} → add_of r s h t ≡ figures_outcome x r h → ((add_of r s h t).report ≡ r) × ((add_of r s h t).lent ≡ h)
     left e = (ap (λ (o : FiguresOutcome). o.report) e, ap (λ (o : FiguresOutcome). o.lent) e)
 
 -- ---- one trace
@@ -226,7 +227,7 @@ adds_one r j c =
           discards = a.discards;
         }
 
-    many : AddsOne r j (figures_outcome TooMany r j.lent)
+    many : AddsOne r j (figures_outcome (Err TooMany) r j.lent)
     many = record { sound = c; records = omega arith; counts = λ x. unfold times_of in omega arith; discards = unfold times_yes in omega arith }
 
 adds_all : (l : List Job) (r : Report) → Sound r → AddsAll r l (add_all r l)

@@ -2,20 +2,21 @@
 use Prim.Native.Nat.{ℕ, zero, suc, ◌+◌, ◌*◌, ◌/◌, ◌≤◌, ◌<◌}
 use mathlib.Core.Path.{◌≡◌, refl, sym, ap, subst, ◌∙◌}
 use mathlib.Core.Logic.{◌≢◌}
-use mathlib.Core.Bool.{Bool, true, false, ◌&&◌, ◌||◌, not, cond}
+use mathlib.Core.Bool.{Bool, true, false}
 use mathlib.Core.List.{List, [], ◌∷◌, ◌++◌, map}
 use native.Mathlib.Omega.{arith}
+use Rattle.std.specs.Prelude.{Option, Some, None, Result, Ok}
 use lib.Dec.{leb, eqb}
-use lib.ListN.{length, get_or, replicate, set, take, drop, length-append, length-set, length-take, length-drop, get_or-replicate}
+use lib.ListN.{length, get_or, replicate, drop, length-append, length-take, length-drop, get_or-replicate}
 use lib.Seq.{get_or-set_same, get_or-set_other}
-use borrow.Author.Tests.{leb-true, leb-false, le-leb, lt-leb, eqb-true, eqb-false, eq-eqb, ne_eqb}
+use borrow.Author.Tests.{leb-true, le-leb, eqb-true, eqb-false, eq-eqb, ne_eqb}
 use Rattle.laws.specs.Sets.{one, none}
 use Rattle.trace_piece.specs.declared.Stop.{Stop}
 use Rattle.trace_piece.specs.declared.Stop.TheVariants as stop
 use Rattle.trace_layout.specs.Kept.{stop_number, figures_result}
 use Rattle.laws.specs.Tab.{tab}
-use Rattle.laws.proofs.Tests.{split, clash, and_left, and_right, both, eqb_same}
-use Rattle.laws.proofs.TabLaws.{length_tab, get_d_tab, is_tab}
+use Rattle.laws.proofs.Tests.{split}
+use Rattle.laws.proofs.TabLaws.{is_tab}
 use Rattle.partitions.specs.declared.Settings.{Settings}
 use Rattle.transfer.specs.Transfer.{number_of}
 use Rattle.arrival.specs.Arrive.{Lent, lent_of}
@@ -25,23 +26,20 @@ use Rattle.memory.specs.Bitmap.{unmarked, marks}
 use Rattle.memory.proofs.bitmap.MapLaws.{map_none, marks_map}
 use Rattle.laws.proofs.Laws.{size_none}
 use Rattle.trace_report.specs.Pieces.{records_before, arrivals_to}
-use Rattle.trace_counts.specs.declared.Missing.TheVariants as missing
 use Rattle.trace_report.specs.Claims.{IsOurs, EndsBeforeTheStop}
 use Rattle.trace_report.proofs.Replays.{ends_before_the_stop}
 use Rattle.trace_report.proofs.adding.Adds.{length_arrivals}
 use Rattle.trace_counts.specs.declared.Report.{Report}
 use Rattle.trace_counts.specs.Counts.{fresh_report, sum_to, good_report, with_room, slot_of, count_one, count_all, how_many_yes}
 use Rattle.trace_counts.proofs.Sums.{length_one}
-use Rattle.trace_report.specs.declared.adding.FiguresAnswer.TheVariants.{BadReport, TooMany, Replayed}
 use Rattle.trace_report.specs.Report.{replayed_in, added_to, FiguresOutcome, figures_outcome, figures_number, add_of}
 use Rattle.trace_claims.specs.Claims.{sum_of, Sound, Job, done_by, add_all, FromFresh, ReplayAdds}
 use Rattle.trace_claims.proofs.Counts.{sum_is, length_all}
 use Rattle.trace_claims.proofs.Figures.{from_fresh, replay_adds}
 use Rattle.trace_parts.specs.declared.Part.{Part}
-use Rattle.trace_parts.specs.declared.MergeAnswer.TheVariants.{Merged}
-use Rattle.trace_parts.specs.Merging.{empty_report, good_part, room_for, both_at, joined, merge_outcome, one_of, merge_of}
+use Rattle.trace_counts.specs.declared.ReportError.{ReportError}
+use Rattle.trace_parts.specs.Merging.{empty_report, good_part, room_for, both_at, joined, one_of, merge_of}
 use Rattle.trace_parts.proofs.Joined.{fresh_right, joined_assoc}
-use Rattle.trace_parts.specs.Merging.{MergeOutcome, merge_number}
 use Rattle.trace_claims.specs.MergesClaims.{stop_in, stops_bad, stops_differing, how_many_stop, part_of, OneIsTheList, EachReplayed, pieces_in, FewPiecesAreReplayed, MergeIsTheList, Plan, shard, pair, traces_of, merge_both, run_plan, AnyPlanIsTheList, ReportsAloneCannot}
 
 -- ---- counts
@@ -83,7 +81,7 @@ abbrev added : Report → Job → Report
 added r j = added_to r j.settings j.lent j.trace
 
 abbrev outcome : Report → Job → FiguresOutcome
-outcome r j = figures_outcome (Replayed (replay_of j.settings j.lent j.trace).stop) (added r j) (lent_of (replay_of j.settings j.lent j.trace).world)
+outcome r j = figures_outcome (Ok (replay_of j.settings j.lent j.trace).stop) (added r j) (lent_of (replay_of j.settings j.lent j.trace).world)
 
 -- a call with room replays
 with_room_lem : (r : Report) (j : Job) → Sound r → r.records + length j.trace / 513 ≤ 4294967295 → done_by r j ≡ outcome r j
@@ -228,10 +226,10 @@ unfolding FromFresh
 sound_all l = (from_fresh l).sound
 
 -- a trace stops once at most
-stop_once : (x : Stop) → one (stops_bad x) + one (stops_differing x) ≤ 1
-stop_once stop.None = omega arith
-stop_once (stop.Bad i) = omega arith
-stop_once (stop.Differs i) = omega arith
+stop_once : (x : Option Stop) → one (stops_bad x) + one (stops_differing x) ≤ 1
+stop_once None = omega arith
+stop_once (Some (stop.Bad i)) = omega arith
+stop_once (Some (stop.Differs i)) = omega arith
 
 few_stops : (l : List Job) → how_many_stop stops_bad l + how_many_stop stops_differing l ≤ length l
 unfolding how_many_stop
@@ -247,7 +245,7 @@ good_all (j ∷ l) =
     let d = how_many_stop stops_differing (j ∷ l) in
     rw (sound_good (add_all fresh_report (j ∷ l)) (sound_all (j ∷ l)), ne_eqb (suc (length l)) 0 n, le-leb (b + d) (suc (length l)) (few_stops (j ∷ l)))
 
-stops_append : (f : Stop → Bool) (l m : List Job) → how_many_stop f (l ++ m) ≡ how_many_stop f l + how_many_stop f m
+stops_append : (f : Option Stop → Bool) (l m : List Job) → how_many_stop f (l ++ m) ≡ how_many_stop f l + how_many_stop f m
 unfolding how_many_stop
 stops_append f [] m = omega arith
 stops_append f (j ∷ l) m = omega (arith, stops_append f l m)
@@ -269,15 +267,15 @@ room_both l m e h =
 pub merge_is_the_list : MergeIsTheList
 unfolding MergeIsTheList merge_of
 merge_is_the_list l m e h =
-    rw (good_all l, good_all m, room_both l m e h) (ap (merge_outcome Merged) (sym (both_joined l m e)))
+    rw (good_all l, good_all m, room_both l m e h) (ap Ok (sym (both_joined l m e)))
 
 -- ---- one trace
 
-one_stop : (r : Report) (x : Stop) → good_report r ≡ true → one_of r (stop_number x) ≡ merge_outcome Merged (part r 1 (one (stops_bad x)) (one (stops_differing x)))
+one_stop : (r : Report) (x : Option Stop) → good_report r ≡ true → one_of r (stop_number x) ≡ Ok (part r 1 (one (stops_bad x)) (one (stops_differing x)))
 unfolding one_of
-one_stop r stop.None g = rw g
-one_stop r (stop.Bad i) g = rw g
-one_stop r (stop.Differs i) g = rw g
+one_stop r None g = rw g
+one_stop r (Some (stop.Bad i)) g = rw g
+one_stop r (Some (stop.Differs i)) g = rw g
 
 pub one_is_the_list : OneIsTheList
 unfolding OneIsTheList EachReplayed add_all how_many_stop
@@ -287,7 +285,7 @@ one_is_the_list j e =
     let c : differing j + 0 ≡ differing j = omega arith in
     ap (λ (o : FiguresOutcome). one_of o.report (figures_result o.answer)) d
     ∙ one_stop (added fresh_report j) (stop_in j) (sound_good (added fresh_report j) (sound_added fresh_report j fresh_sound e.0))
-    ∙ ap (λ (o : FiguresOutcome). merge_outcome Merged (part o.report 1 (bads j) (differing j))) (sym d)
+    ∙ ap (λ (o : FiguresOutcome). Ok (part o.report 1 (bads j) (differing j))) (sym d)
     ∙ rw (b, c)
 
 -- ---- any plan
@@ -295,11 +293,11 @@ one_is_the_list j e =
 later : (l m : List Job) → EachReplayed fresh_report (l ++ m) → EachReplayed fresh_report m
 later l m e = fewer m (add_all fresh_report l) fresh_report (sound_all l) fresh_sound (omega arith) (each_later l m fresh_report e)
 
-pair_is : (x y : MergeOutcome) (a b : Part) → x ≡ merge_outcome Merged a → y ≡ merge_outcome Merged b → merge_both x y ≡ merge_of a b
+pair_is : (x y : Result Part ReportError) (a b : Part) → x ≡ Ok a → y ≡ Ok b → merge_both x y ≡ merge_of a b
 unfolding merge_both
 pair_is x y a b e f = rw (e, f)
 
-plan_is : (p : Plan) → EachReplayed fresh_report (traces_of p) → length (traces_of p) ≤ 4294967295 → run_plan p ≡ merge_outcome Merged (part_of (traces_of p))
+plan_is : (p : Plan) → EachReplayed fresh_report (traces_of p) → length (traces_of p) ≤ 4294967295 → run_plan p ≡ Ok (part_of (traces_of p))
 unfolding traces_of run_plan MergeIsTheList
 plan_is (shard l) e h = refl
 plan_is (pair p q) e h =
@@ -337,7 +335,7 @@ abbrev blank : Job → Job
 blank j = record { settings = j.settings; lent = j.lent; trace = [] }
 
 -- it adds nothing, and its end has no mark
-blank_added : (r : Report) (j : Job) → length r.counts ≡ 16 → added r (blank j) ≡ record { records = r.records; counts = r.counts; discards = r.discards; marked = 0; missing = missing.None }
+blank_added : (r : Report) (j : Job) → length r.counts ≡ 16 → added r (blank j) ≡ record { records = r.records; counts = r.counts; discards = r.discards; marked = 0; missing = None }
 unfolding added_to replay_of pieces_of cut replay_from begun arrivals_to answers_of discards_of count_all how_many_yes
 blank_added r j l =
     let a : r.records + 0 ≡ r.records = omega arith in

@@ -1,6 +1,6 @@
 -- What is claimed of a report (02, L14), whatever the report, the settings, the buffers and the traces: by the records before the stop and
 -- the end of the replay alone, in words of their own. proofs/ proves each claim, in lower case. Assumes nothing.
-use Rattle.std.specs.Prelude.{ℕ, ◌+◌, ◌/◌, ◌≤◌, ◌<◌, ◌≡◌, ◌↔◌, Bool, true, false, List, [], ◌∷◌, ◌++◌, map, eqb, length, get_or}
+use Rattle.std.specs.Prelude.{ℕ, ◌+◌, ◌/◌, ◌≤◌, ◌<◌, ◌≡◌, ◌↔◌, Bool, true, false, List, [], ◌∷◌, ◌++◌, Option, Some, None, Result, Ok, Err, map, eqb, length, get_or}
 use Rattle.laws.specs.Sets.{one}
 use Rattle.memory.specs.Bitmap.{marked_in, marks}
 use Rattle.partitions.specs.declared.Settings.{Settings}
@@ -17,10 +17,8 @@ use Rattle.trace_report.specs.Pieces.{arrivals_to, records_before}
 use Rattle.trace_counts.specs.Counts.{fresh_report}
 use Rattle.trace_report.specs.Report.{FiguresOutcome, figures_number, add_of}
 use Rattle.trace_counts.specs.declared.Report.{Report}
-use Rattle.trace_counts.specs.declared.Missing.{Missing}
-use Rattle.trace_counts.specs.declared.Missing.TheVariants as missing
-use Rattle.trace_report.specs.declared.adding.FiguresAnswer.{FiguresAnswer}
-use Rattle.trace_report.specs.declared.adding.FiguresAnswer.TheVariants.{BadReport, TooMany, Replayed}
+use Rattle.trace_counts.specs.declared.ReportError.{ReportError}
+use Rattle.trace_counts.specs.declared.ReportError.TheVariants.{BadReport, TooMany}
 
 -- ---- a report that is handed in
 
@@ -41,29 +39,29 @@ pub record Sound (r : Report) : Type 0 where
 unfoldable pub Refused71 : Type 0
 Refused71 =
     (r : Report) (s : Settings) (h : Lent) (t : List ℕ) → length r.counts ≡ 16
-    → ((add_of r s h t).answer ≡ BadReport) ↔ (Sound r → ⊥)
+    → ((add_of r s h t).answer ≡ Err BadReport) ↔ (Sound r → ⊥)
 
 -- 70 of each sound report that would pass 4,294,967,295 records with the whole pieces of the trace, and of no other
 unfoldable pub Refused70 : Type 0
 Refused70 =
     (r : Report) (s : Settings) (h : Lent) (t : List ℕ) → length r.counts ≡ 16
-    → ((add_of r s h t).answer ≡ TooMany) ↔ (Sound r × (4294967295 < r.records + length t / 513))
+    → ((add_of r s h t).answer ≡ Err TooMany) ↔ (Sound r × (4294967295 < r.records + length t / 513))
 
 -- any other trace is replayed, and its stop is that of the replay
 unfoldable pub ElseReplayed : Type 0
 ElseReplayed =
     (r : Report) (s : Settings) (h : Lent) (t : List ℕ) → Sound r → r.records + length t / 513 ≤ 4294967295
-    → (add_of r s h t).answer ≡ Replayed (replay_of s h t).stop
+    → (add_of r s h t).answer ≡ Ok (replay_of s h t).stop
 
 -- "Both leave report and buffers."
 unfoldable pub RefusalsLeaveAll : Type 0
 RefusalsLeaveAll =
-    (r : Report) (s : Settings) (h : Lent) (t : List ℕ) → ((x : Stop) → (add_of r s h t).answer ≡ Replayed x → ⊥)
+    (r : Report) (s : Settings) (h : Lent) (t : List ℕ) → ((x : Option Stop) → (add_of r s h t).answer ≡ Ok x → ⊥)
     → ((add_of r s h t).report ≡ r) × ((add_of r s h t).lent ≡ h)
 
 -- "is refused unreplayed, 70. Before that, 71"
 unfoldable pub ReportNumbers : Type 0
-ReportNumbers = map figures_number (TooMany ∷ BadReport ∷ []) ≡ 70 ∷ 71 ∷ []
+ReportNumbers = map figures_number (Err TooMany ∷ Err BadReport ∷ []) ≡ 70 ∷ 71 ∷ []
 
 -- ---- one trace
 
@@ -113,13 +111,13 @@ pub record Adds (r : Report) (s : Settings) (h : Lent) (t : List ℕ) (q : Repor
 
 unfoldable pub ReplayAdds : Type 0
 ReplayAdds =
-    (r : Report) (s : Settings) (h : Lent) (t : List ℕ) (x : Stop) → Sound r → (add_of r s h t).answer ≡ Replayed x
+    (r : Report) (s : Settings) (h : Lent) (t : List ℕ) (x : Option Stop) → Sound r → (add_of r s h t).answer ≡ Ok x
     → Adds r s h t (add_of r s h t).report
 
 -- "if Running, the smallest missing number": there is one exactly if Running
-abbrev pub MissingFacts : World → Missing → Type 0
-MissingFacts w missing.None = (r : Run) → w.transfer ≡ Running r → ⊥
-MissingFacts w (missing.Number k) =
+abbrev pub MissingFacts : World → Option ℕ → Type 0
+MissingFacts w None = (r : Run) → w.transfer ≡ Running r → ⊥
+MissingFacts w (Some k) =
     (r : Run) × (w.transfer ≡ Running r) × (k < r.head.total) × (marked_in w.seen k ≡ false)
     × ((j : ℕ) → j < k → marked_in w.seen j ≡ true)
 
@@ -131,7 +129,7 @@ pub record EndFacts (w : World) (q : Report) : Type 0 where
 
 unfoldable pub ReplayEnds : Type 0
 ReplayEnds =
-    (r : Report) (s : Settings) (h : Lent) (t : List ℕ) (x : Stop) → (add_of r s h t).answer ≡ Replayed x
+    (r : Report) (s : Settings) (h : Lent) (t : List ℕ) (x : Option Stop) → (add_of r s h t).answer ≡ Ok x
     → EndFacts (replay_of s h t).world (add_of r s h t).report
 
 -- ---- "Over many traces, each from Idle": each with settings and buffers of its own
@@ -152,10 +150,9 @@ add_all r [] = r
 add_all r (j ∷ l) = add_all (done_by r j).report l
 
 -- what a call adds to a list of all records: nothing where it is refused
-abbrev pub told_by : {A : Type 0} → List A → FiguresAnswer → List A
-told_by l BadReport = []
-told_by l TooMany = []
-told_by l (Replayed x) = l
+abbrev pub told_by : {A : Type 0} → List A → Result (Option Stop) ReportError → List A
+told_by l (Err e) = []
+told_by l (Ok x) = l
 
 -- our answers to all records replayed
 unfoldable pub all_answers : Report → List Job → List Answer

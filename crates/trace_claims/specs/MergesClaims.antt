@@ -1,5 +1,5 @@
 -- What is claimed of merged parts, whatever the traces, their settings and their buffers. proofs/ proves each claim, in lower case. Assumes nothing.
-use Rattle.std.specs.Prelude.{ℕ, ◌+◌, ◌/◌, ◌≤◌, ◌≡◌, List, [], ◌∷◌, ◌++◌, Bool, true, false, cond, eqb, length}
+use Rattle.std.specs.Prelude.{ℕ, ◌+◌, ◌/◌, ◌≤◌, ◌≡◌, List, [], ◌∷◌, ◌++◌, Bool, true, false, Option, Some, None, Result, Ok, Err, length}
 use Rattle.laws.specs.Sets.{one}
 use Rattle.trace_piece.specs.declared.Stop.{Stop}
 use Rattle.trace_piece.specs.declared.Stop.TheVariants as stop
@@ -10,28 +10,27 @@ use Rattle.trace_counts.specs.declared.Report.{Report}
 use Rattle.trace_report.specs.Report.{figures_number}
 use Rattle.trace_claims.specs.Claims.{Job, done_by, add_all}
 use Rattle.trace_parts.specs.declared.Part.{Part}
-use Rattle.trace_parts.specs.declared.MergeAnswer.{MergeAnswer}
-use Rattle.trace_parts.specs.declared.MergeAnswer.TheVariants.{BadReport, TooMany, Merged}
-use Rattle.trace_parts.specs.Merging.{fresh_part, good_part, MergeOutcome, merge_outcome, merge_number, one_of, merge_of}
+use Rattle.trace_counts.specs.declared.ReportError.{ReportError}
+use Rattle.trace_parts.specs.Merging.{fresh_part, good_part, merge_number, one_of, merge_of}
 
 -- ---- the part of a list of traces
 
 -- where the replay of a trace stops (02, L10)
-abbrev pub stop_in : Job → Stop
+abbrev pub stop_in : Job → Option Stop
 stop_in j = (replay_of j.settings j.lent j.trace).stop
 
-abbrev pub stops_bad : Stop → Bool
-stops_bad stop.None = false
-stops_bad (stop.Bad i) = true
-stops_bad (stop.Differs i) = false
+abbrev pub stops_bad : Option Stop → Bool
+stops_bad None = false
+stops_bad (Some (stop.Bad i)) = true
+stops_bad (Some (stop.Differs i)) = false
 
-abbrev pub stops_differing : Stop → Bool
-stops_differing stop.None = false
-stops_differing (stop.Bad i) = false
-stops_differing (stop.Differs i) = true
+abbrev pub stops_differing : Option Stop → Bool
+stops_differing None = false
+stops_differing (Some (stop.Bad i)) = false
+stops_differing (Some (stop.Differs i)) = true
 
 -- how many traces pass a test of their stop
-unfoldable pub how_many_stop : (Stop → Bool) → List Job → ℕ
+unfoldable pub how_many_stop : (Option Stop → Bool) → List Job → ℕ
 how_many_stop f [] = 0
 how_many_stop f (j ∷ l) = one (f (stop_in j)) + how_many_stop f l
 
@@ -59,14 +58,14 @@ FewPiecesAreReplayed = (l : List Job) → pieces_in l ≤ 4294967295 → EachRep
 unfoldable pub OneIsTheList : Type 0
 OneIsTheList =
     (j : Job) → EachReplayed fresh_report (j ∷ [])
-    → one_of (done_by fresh_report j).report (figures_result (done_by fresh_report j).answer) ≡ merge_outcome Merged (part_of (j ∷ []))
+    → one_of (done_by fresh_report j).report (figures_result (done_by fresh_report j).answer) ≡ Ok (part_of (j ∷ []))
 
 -- ---- the merge of two parts is the part of the traces of both, one list after the other
 
 unfoldable pub MergeIsTheList : Type 0
 MergeIsTheList =
     (l m : List Job) → EachReplayed fresh_report (l ++ m) → length (l ++ m) ≤ 4294967295
-    → merge_of (part_of l) (part_of m) ≡ merge_outcome Merged (part_of (l ++ m))
+    → merge_of (part_of l) (part_of m) ≡ Ok (part_of (l ++ m))
 
 -- ---- any engine: lists of traces that are merged two at a time, in whatever way, the earlier ones first
 
@@ -79,17 +78,19 @@ traces_of (shard l) = l
 traces_of (pair p q) = traces_of p ++ traces_of q
 
 -- a refusal of either is the whole's
-unfoldable pub merge_both : MergeOutcome → MergeOutcome → MergeOutcome
-merge_both a b = cond (eqb (merge_number a.answer) 0) (cond (eqb (merge_number b.answer) 0) (merge_of a.part b.part) b) a
+unfoldable pub merge_both : Result Part ReportError → Result Part ReportError → Result Part ReportError
+merge_both (Err e) b = Err e
+merge_both (Ok p) (Err e) = Err e
+merge_both (Ok p) (Ok q) = merge_of p q
 
-unfoldable pub run_plan : Plan → MergeOutcome
-run_plan (shard l) = merge_outcome Merged (part_of l)
+unfoldable pub run_plan : Plan → Result Part ReportError
+run_plan (shard l) = Ok (part_of l)
 run_plan (pair p q) = merge_both (run_plan p) (run_plan q)
 
 unfoldable pub AnyPlanIsTheList : Type 0
 AnyPlanIsTheList =
     (p : Plan) → EachReplayed fresh_report (traces_of p) → length (traces_of p) ≤ 4294967295
-    → run_plan p ≡ merge_outcome Merged (part_of (traces_of p))
+    → run_plan p ≡ Ok (part_of (traces_of p))
 
 -- ---- laws of the merge itself
 
@@ -101,15 +102,15 @@ pub record Whole (p : Part) : Type 0 where
   pub traces : p.traces ≤ 4294967295
 
 unfoldable pub FreshIsNeutral : Type 0
-FreshIsNeutral = (p : Part) → Whole p → (merge_of p fresh_part ≡ merge_outcome Merged p) × (merge_of fresh_part p ≡ merge_outcome Merged p)
+FreshIsNeutral = (p : Part) → Whole p → (merge_of p fresh_part ≡ Ok p) × (merge_of fresh_part p ≡ Ok p)
 
 -- three parts, whichever two are merged first: the same answer, and where it is not a refusal the same part
 unfoldable pub MergesAssociate : Type 0
 MergesAssociate =
     (a b c : Part) → Whole a → Whole b → Whole c
-    → let x = merge_both (merge_of a b) (merge_outcome Merged c) in
-    let y = merge_both (merge_outcome Merged a) (merge_of b c) in
-    (merge_number x.answer ≡ merge_number y.answer) × (merge_number x.answer ≡ 0 → x ≡ y)
+    → let x = merge_both (merge_of a b) (Ok c) in
+    let y = merge_both (Ok a) (merge_of b c) in
+    (merge_number x ≡ merge_number y) × (merge_number x ≡ 0 → x ≡ y)
 
 -- ---- the 84 bytes of a report alone cannot be merged
 

@@ -1,3 +1,2 @@
 -- The laws of `specs/`.
 pub mod Sums
-pub mod Laws

@@ -1,19 +1,11 @@
 -- Sums of counts, and counts one after the other. Assumes nothing.
-use Rattle.std.proofs.Common.{◌≡◌, ℕ, zero, suc, ◌+◌, ◌-◌, ◌<◌, ◌≤◌, true, false, eqb, ltb, leb, ◌≢◌, List, [], ◌∷◌, ◌++◌, length, get_or, set, sym, refl, ap, ◌∙◌, not-suc-le-zero, add-one, arith, length-set, get_or-set_other, get_or-set_same, ltb-false, ltb-true, eqb-true, leb-true}
+use Rattle.std.proofs.Common.{◌≡◌, ℕ, zero, suc, ◌+◌, ◌<◌, ◌≤◌, true, false, eqb, ltb, leb, ◌≢◌, List, [], ◌∷◌, ◌++◌, length, get_or, set, sym, refl, ap, not-suc-le-zero, arith, length-set, get_or-set_other, get_or-set_same, ltb-false, ltb-true, eqb-true, leb-true}
 use lib.Seq.{set_out}
 use borrow.Author.Tests.{eqb-false}
 use Rattle.laws.proofs.Tests.{split}
 use Rattle.trace_counts.specs.Counts.{sum_to, slot_of, count_one, count_all}
 
 -- ---- sums
-
-pub sum_none : (l : List ℕ) → sum_to 0 l ≡ 0
-unfolding sum_to
-sum_none l = refl
-
-pub sum_more : (i : ℕ) (l : List ℕ) → sum_to (i + 1) l ≡ sum_to i l + get_or l i 0
-unfolding sum_to
-sum_more i l = rw (add-one i)
 
 -- each count is within the sum
 pub sum_has : (n : ℕ) (l : List ℕ) (j : ℕ) → j < n → get_or l j 0 ≤ sum_to n l

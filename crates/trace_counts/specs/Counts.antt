@@ -1,5 +1,5 @@
 -- Records counted by their answers (02, L14): a tally, and a report. Assumes nothing.
-use Rattle.std.specs.Prelude.{ℕ, zero, suc, ◌+◌, ◌-◌, Bool, cond, not, ◌&&◌, List, [], ◌∷◌, replicate, ◌==◌, nat_le, slice_index, slice_set}
+use Rattle.std.specs.Prelude.{ℕ, zero, suc, ◌+◌, ◌-◌, Bool, cond, not, ◌&&◌, List, [], ◌∷◌, replicate, Option, Some, None, ◌==◌, nat_le, slice_index, slice_set}
 use Rattle.laws.specs.Sets.{Set, one, least}
 use Rattle.memory.specs.Bitmap.{marked_in}
 pub use Rattle.trace_counts.specs.Tally.{recorded_at, number_at, plus, added_at}
@@ -7,15 +7,15 @@ unfoldable pub use Rattle.trace_counts.specs.Tally.{raised, tallied, tally_to, a
 use Rattle.transfer.specs.Transfer.{count_of}
 use Rattle.transfer.specs.declared.State.{State}
 use Rattle.transfer.specs.declared.State.TheVariants as state
-use Rattle.trace_counts.specs.declared.Missing.{Missing}
-use Rattle.trace_counts.specs.declared.Missing.TheVariants as missing
 use Rattle.trace_counts.specs.declared.Report.{Report}
+use Rattle.trace_counts.specs.declared.ReportError.{ReportError}
+use Rattle.trace_counts.specs.declared.ReportError.TheVariants.{BadReport, TooMany}
 
 -- ---- a report
 
 -- "a fresh, all-zero report"
 abbrev pub fresh_report : Report
-fresh_report = record { records = 0; counts = replicate 16 0; discards = 0; marked = 0; missing = missing.None }
+fresh_report = record { records = 0; counts = replicate 16 0; discards = 0; marked = 0; missing = None }
 
 -- the sum of the first n counts
 unfoldable pub sum_to : ℕ → List ℕ → ℕ
@@ -29,6 +29,11 @@ good_report r = sum_to 16 r.counts == r.records && nat_le r.discards r.records
 -- what 70 asks: "Up to 4,294,967,295 records", with the whole pieces of the trace, "replayed or not"
 unfoldable pub with_room : Report → ℕ → Bool
 with_room r pieces = nat_le (r.records + pieces) 4294967295
+
+-- the numbers of the two: 71 is asked first
+abbrev pub error_number : ReportError → ℕ
+error_number BadReport = 71
+error_number TooMany = 70
 
 -- ---- counts
 
@@ -70,10 +75,10 @@ abbrev pub is_missing : List ℕ → Set
 is_missing m k = not (marked_in m k)
 
 -- "if Running, the smallest missing number"
-abbrev pub missing_at : State → List ℕ → Missing
-missing_at state.Idle m = missing.None
-missing_at (state.Running r) m = missing.Number (least r.head.total (is_missing m))
-missing_at (state.Done g) m = missing.None
+abbrev pub missing_at : State → List ℕ → Option ℕ
+missing_at state.Idle m = None
+missing_at (state.Running r) m = Some (least r.head.total (is_missing m))
+missing_at (state.Done g) m = None
 
 -- the report with the end that a transfer and a seen map show
 unfoldable pub ended_of : Report → State → List ℕ → Report

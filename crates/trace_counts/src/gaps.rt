@@ -4,35 +4,28 @@ ghost use Rattle.laws.specs.Sets.{least};
 ghost use Rattle.transfer.specs.Transfer.{count_of};
 ghost use Rattle.trace_counts.specs.Counts.{is_missing, missing_at, ended_of};
 
-use crate::{Missing, Report};
+use crate::Report;
 use transfer::{State, Transfer};
 
 // The least number below a total that is not marked, and the total where each is.
 pub fn first_missing(map: &[u8], total: u32) -> u32
     ensures { result ≡ least total (is_missing map.now) }
 {
-    let mut k: u32 = 0;
-    while k < total {
+    for k in 0..total {
         if !memory::bitmap::marked(map, k as usize) {
             return k;
         }
-        k += 1;
     }
     total
 }
 
 // What is missing at an end.
-fn missing_at(transfer: Transfer, seen: &[u8]) -> Missing
+fn missing_at(transfer: Transfer, seen: &[u8]) -> Option<u32>
     ensures { result ≡ missing_at transfer.state seen.now }
 {
-    let state = transfer.state;
-    match state {
-        State::Idle => Missing::None,
-        State::Running(run) => {
-            let total = run.head.total;
-            Missing::Number(first_missing(seen, total))
-        }
-        State::Done(_) => Missing::None,
+    match transfer.state {
+        State::Running(run) => Some(first_missing(seen, run.head.total)),
+        State::Idle | State::Done(_) => None,
     }
 }
 
@@ -40,8 +33,7 @@ fn missing_at(transfer: Transfer, seen: &[u8]) -> Missing
 fn marked_at(transfer: Transfer) -> u32
     ensures { result ≡ count_of transfer.state }
 {
-    let state = transfer.state;
-    match state {
+    match transfer.state {
         State::Idle => 0,
         State::Running(run) => run.count,
         State::Done(head) => head.total,
@@ -49,17 +41,13 @@ fn marked_at(transfer: Transfer) -> u32
 }
 
 // The report with the end that a transfer and the seen map show.
+#[tactic(auto, unfolding(crate::specs::Counts::ended_of))]
 pub fn with_end(report: Report, transfer: Transfer, seen: &[u8]) -> Report
     ensures { result ≡ ended_of report transfer.state seen.now }
 {
-    let counts = report.counts;
-    let marked = marked_at(transfer);
-    let missing = missing_at(transfer, seen);
     Report {
-        records: report.records,
-        counts,
-        discards: report.discards,
-        marked,
-        missing,
+        marked: marked_at(transfer),
+        missing: missing_at(transfer, seen),
+        ..report
     }
 }

@@ -1,18 +1,16 @@
 -- Reports as bytes: 21 words, each a little-endian field of four bytes (`field_at`). Assumes nothing.
-use Rattle.std.specs.Prelude.{ℕ, ◌+◌, ◌-◌, ◌*◌, cond, List, ltb, eqb, length, get_or, replicate}
+use Rattle.std.specs.Prelude.{ℕ, ◌+◌, ◌-◌, ◌*◌, cond, List, Option, Some, None, ltb, eqb, length, get_or, replicate}
 use Rattle.laws.specs.Tab.{tab}
 use Rattle.laws.specs.Rows.{rows}
 use Rattle.uf2_block.specs.Block.{field_at}
 use Rattle.uf2_block.specs.Write.{le32}
-use Rattle.trace_counts.specs.declared.Missing.{Missing}
-use Rattle.trace_counts.specs.declared.Missing.TheVariants as missing
 use Rattle.trace_counts.specs.declared.Report.{Report}
 
 -- ---- read
 
 -- a flag other than 0 is a number that is missing
-abbrev pub missing_from : ℕ → ℕ → Missing
-missing_from flag number = cond (eqb flag 0) missing.None (missing.Number number)
+abbrev pub missing_from : ℕ → ℕ → Option ℕ
+missing_from flag number = cond (eqb flag 0) None (Some number)
 
 -- count k
 abbrev pub count_at : List ℕ → ℕ → ℕ
@@ -34,7 +32,7 @@ fields_from b =
 
 -- one record that has no count, which 71 refuses (proofs/Back.antt)
 abbrev pub no_report : Report
-no_report = record { records = 1; counts = replicate 16 0; discards = 0; marked = 0; missing = missing.None }
+no_report = record { records = 1; counts = replicate 16 0; discards = 0; marked = 0; missing = None }
 
 -- bytes of any other length are no report
 unfoldable pub report_from : List ℕ → Report
@@ -42,13 +40,13 @@ report_from b = cond (eqb (length b) 84) (fields_from b) no_report
 
 -- ---- written
 
-abbrev pub flag_of : Missing → ℕ
-flag_of missing.None = 0
-flag_of (missing.Number k) = 1
+abbrev pub flag_of : Option ℕ → ℕ
+flag_of None = 0
+flag_of (Some k) = 1
 
-abbrev pub missing_number : Missing → ℕ
-missing_number missing.None = 0
-missing_number (missing.Number k) = k
+abbrev pub missing_number : Option ℕ → ℕ
+missing_number None = 0
+missing_number (Some k) = k
 
 -- word k
 unfoldable pub word_of : Report → ℕ → ℕ

@@ -1,13 +1,13 @@
 -- What a good part says. Assumes nothing.
-use Prim.Native.Nat.{ℕ, ◌+◌, ◌≤◌}
+use Prim.Native.Nat.{◌+◌, ◌≤◌}
 use mathlib.Core.Path.{◌≡◌}
-use mathlib.Core.Bool.{Bool, true, ◌&&◌, ◌||◌, not}
+use mathlib.Core.Bool.{true, ◌&&◌, ◌||◌, not}
 use lib.Dec.{leb, eqb}
 use borrow.Author.Tests.{leb-true, eqb-true}
 use Rattle.laws.proofs.Tests.{and_left, and_right}
 use Rattle.trace_counts.specs.Counts.{sum_to, good_report}
 use Rattle.trace_parts.specs.declared.Part.{Part}
-use Rattle.trace_parts.specs.Merging.{empty_report, stops_fit, good_part}
+use Rattle.trace_parts.specs.Merging.{empty_report, good_part}
 
 -- as numbers, and what a part of no trace is
 pub record Good (p : Part) : Type 0 where

@@ -1,23 +1,20 @@
 -- Two parts as one: a fresh part changes nothing on either side, three parts are one whichever two are taken first, and good parts give a good one. Assumes nothing.
-use Prim.Native.Nat.{ℕ, zero, suc, ◌+◌, ◌≤◌, ◌<◌}
-use mathlib.Core.Path.{◌≡◌, refl, sym, ap, ◌∙◌}
+use Prim.Native.Nat.{ℕ, zero, suc, ◌+◌, ◌<◌}
+use mathlib.Core.Path.{◌≡◌, refl, sym, ◌∙◌}
 use mathlib.Core.Logic.{◌≢◌}
-use mathlib.Core.Bool.{Bool, true, false, ◌&&◌, ◌||◌, not, cond}
-use mathlib.Core.List.{List, [], ◌∷◌}
+use mathlib.Core.Bool.{Bool, true, false, ◌&&◌, cond}
+use mathlib.Core.List.{List}
 use native.Mathlib.Omega.{arith}
+use Rattle.std.specs.Prelude.{Option, Some, None}
 use lib.Dec.{leb, eqb}
 use lib.ListN.{length, get_or, replicate, get_or-replicate}
-use borrow.Author.Tests.{leb-true, leb-false, le-leb, lt-leb, eqb-true, eqb-false, eq-eqb, ne_eqb}
+use borrow.Author.Tests.{le-leb, eqb-true, eqb-false, eq-eqb, ne_eqb}
 use Rattle.laws.specs.Tab.{tab}
-use Rattle.laws.proofs.Tests.{split, clash, and_left, and_right, both}
+use Rattle.laws.proofs.Tests.{split, clash, and_left, and_right}
 use Rattle.laws.proofs.TabLaws.{length_tab, get_d_tab, is_tab}
-use Rattle.trace_counts.specs.declared.Missing.{Missing}
-use Rattle.trace_counts.specs.declared.Missing.TheVariants as missing
-use Rattle.trace_counts.specs.declared.Report.{Report}
-use Rattle.trace_counts.specs.Counts.{fresh_report, sum_to, good_report}
-use Rattle.trace_counts.proofs.Sums.{sum_has}
+use Rattle.trace_counts.specs.Counts.{sum_to, good_report}
 use Rattle.trace_parts.specs.declared.Part.{Part}
-use Rattle.trace_parts.specs.Merging.{fresh_part, is_none, empty_report, stops_fit, good_part, both_at, joined}
+use Rattle.trace_parts.specs.Merging.{fresh_part, is_none, empty_report, good_part, both_at, joined}
 use Rattle.trace_parts.proofs.Good.{good_is}
 
 -- ---- sums
@@ -55,14 +52,14 @@ fresh_right p l =
     rw (c, r, d, t, x, y)
 
 -- what a good part of no trace has at its end
-none_is : (m : Missing) → is_none m ≡ true → m ≡ missing.None
-none_is missing.None e = refl
-none_is (missing.Number k) e = clash false e refl
+none_is : (m : Option ℕ) → is_none m ≡ true → m ≡ None
+none_is None e = refl
+none_is (Some k) e = clash false e refl
 
 record Empty (p : Part) : Type 0 where
   records : p.report.records ≡ 0
   marked : p.report.marked ≡ 0
-  missing : p.report.missing ≡ missing.None
+  missing : p.report.missing ≡ None
 
 empty_end : (p : Part) → good_part p ≡ true → eqb p.traces 0 ≡ true → Empty p
 unfolding empty_report

@@ -1,23 +1,20 @@
 -- Parts of a fleet's figures: of one trace, and two as one. Assumes nothing.
-use Rattle.std.specs.Prelude.{ℕ, ◌+◌, Bool, true, false, ◌&&◌, ◌||◌, not, cond, List, leb, eqb, get_or}
+use Rattle.std.specs.Prelude.{ℕ, ◌+◌, Bool, true, false, ◌&&◌, ◌||◌, not, cond, List, Option, Some, None, Result, Ok, Err, leb, eqb, get_or}
 use Rattle.laws.specs.Sets.{one}
 use Rattle.laws.specs.Tab.{tab}
-use Rattle.trace_counts.specs.declared.Missing.{Missing}
-use Rattle.trace_counts.specs.declared.Missing.TheVariants as missing
 use Rattle.trace_counts.specs.declared.Report.{Report}
-use Rattle.trace_counts.specs.Counts.{fresh_report, good_report}
+use Rattle.trace_counts.specs.Counts.{error_number, fresh_report, good_report}
 use Rattle.trace_parts.specs.declared.Part.{Part}
-use Rattle.trace_parts.specs.declared.Merge.{Merge}
-use Rattle.trace_parts.specs.declared.MergeAnswer.{MergeAnswer}
-use Rattle.trace_parts.specs.declared.MergeAnswer.TheVariants.{BadReport, TooMany, Merged}
+use Rattle.trace_counts.specs.declared.ReportError.{ReportError}
+use Rattle.trace_counts.specs.declared.ReportError.TheVariants.{BadReport, TooMany}
 
 -- the part of no trace
 abbrev pub fresh_part : Part
 fresh_part = record { report = fresh_report; traces = 0; bad = 0; differs = 0 }
 
-abbrev pub is_none : Missing → Bool
-is_none missing.None = true
-is_none (missing.Number k) = false
+abbrev pub is_none : Option ℕ → Bool
+is_none None = true
+is_none (Some k) = false
 
 -- no record, and no end
 unfoldable pub empty_report : Report → Bool
@@ -63,32 +60,17 @@ joined a b =
       differs = a.differs + b.differs;
     }
 
--- what is handed back
-pub record MergeOutcome : Type 0 where
-  pub answer : MergeAnswer
-  pub part : Part
-
-abbrev pub merge_outcome : MergeAnswer → Part → MergeOutcome
-merge_outcome x p = record { answer = x; part = p }
-
-abbrev pub merge_number : MergeAnswer → ℕ
-merge_number BadReport = 71
-merge_number TooMany = 70
-merge_number Merged = 0
-
--- what is returned as one value, which the contract names, and its number
-abbrev pub merge_return : Merge → MergeOutcome
-merge_return m = merge_outcome m.answer m.part
-
-abbrev pub outcome_number : MergeOutcome → ℕ
-outcome_number o = merge_number o.answer
+-- the number of what comes of two parts, or of a report over one trace
+abbrev pub merge_number : Result Part ReportError → ℕ
+merge_number (Err e) = error_number e
+merge_number (Ok p) = 0
 
 -- one trace: 71 of a bad report, and of any other number
-unfoldable pub one_of : Report → ℕ → MergeOutcome
-one_of r stop = cond (not (good_report r && leb stop 2)) (merge_outcome BadReport fresh_part) (merge_outcome Merged (one_part r stop))
+unfoldable pub one_of : Report → ℕ → Result Part ReportError
+one_of r stop = cond (not (good_report r && leb stop 2)) (Err BadReport) (Ok (one_part r stop))
 
--- two parts: 71 of either, then 70; both leave the part as it was
-unfoldable pub merge_of : Part → Part → MergeOutcome
+-- two parts: 71 of either, then 70; both hand back no part, and the caller's stay as they were
+unfoldable pub merge_of : Part → Part → Result Part ReportError
 merge_of a b =
-    cond (not (good_part a && good_part b)) (merge_outcome BadReport a)
-    (cond (not (room_for a b)) (merge_outcome TooMany a) (merge_outcome Merged (joined a b)))
+    cond (not (good_part a && good_part b)) (Err BadReport)
+    (cond (not (room_for a b)) (Err TooMany) (Ok (joined a b)))

@@ -1,9 +1,7 @@
 -- Two parts as one, as the code sums: in 32 bits. Assumes nothing.
-use Rattle.std.specs.Prelude.{ℕ, zero, suc, ◌+◌, ◌%◌, cond, List, eqb, get_or, set}
+use Rattle.std.specs.Prelude.{ℕ, zero, suc, cond, List, eqb, get_or, set}
 use Rattle.trace_parts.specs.declared.Part.{Part}
-
-abbrev pub plus : ℕ → ℕ → ℕ
-plus a b = (a + b) % 4294967296
+pub use Rattle.trace_counts.specs.Tally.{plus}
 
 -- at the first k places, and else as they were
 unfoldable pub summed_to : List ℕ → List ℕ → ℕ → List ℕ

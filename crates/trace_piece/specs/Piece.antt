@@ -1,10 +1,10 @@
 -- One piece of a trace by itself (02, L10). Assumes nothing.
-use Rattle.std.specs.Prelude.{ℕ, ◌/◌, ◌%◌, Bool, true, false, ◌&&◌, ◌||◌, not, cond, List, eqb, length, get_or, drop}
+use Rattle.std.specs.Prelude.{ℕ, ◌/◌, ◌%◌, Bool, true, false, ◌&&◌, ◌||◌, not, cond, List, Option, Some, None, Result, Ok, Err, eqb, length, get_or, drop}
 use Rattle.laws.specs.Sets.{one}
 use Rattle.transfer.specs.Transfer.{number_of}
 use Rattle.transfer.specs.declared.Answer.{Answer}
-use Rattle.trace_piece.specs.declared.PieceAnswer.{PieceAnswer}
-use Rattle.trace_piece.specs.declared.PieceAnswer.TheVariants as piece
+use Rattle.trace_piece.specs.declared.PieceError.{PieceError}
+use Rattle.trace_piece.specs.declared.PieceError.TheVariants as piece
 use Rattle.trace_piece.specs.declared.Stop.{Stop}
 use Rattle.trace_piece.specs.declared.Stop.TheVariants as stop
 
@@ -24,16 +24,15 @@ unfoldable pub agrees : ℕ → Answer → Bool → Bool
 agrees b x d = eqb (b / 8) (number_of x) && eqb (b / 4 % 2) (one d)
 
 -- what comes of a record
-abbrev pub compared_of : ℕ → Answer → Bool → PieceAnswer
-compared_of b x d = cond (agrees b x d) piece.Replayed piece.Differs
+abbrev pub compared_of : ℕ → Answer → Bool → Result (Unit {0}) PieceError
+compared_of b x d = cond (agrees b x d) (Ok tt) (Err piece.Differs)
 
-abbrev pub is_replayed : PieceAnswer → Bool
-is_replayed piece.Replayed = true
-is_replayed piece.Bad = false
-is_replayed piece.Differs = false
+abbrev pub is_replayed : Result (Unit {0}) PieceError → Bool
+is_replayed (Ok u) = true
+is_replayed (Err e) = false
 
 -- ""bad" and its index from 0", ""differs" and its index"
-abbrev pub stop_of : PieceAnswer → ℕ → Stop
-stop_of piece.Replayed i = stop.None
-stop_of piece.Bad i = stop.Bad i
-stop_of piece.Differs i = stop.Differs i
+abbrev pub stop_of : Result (Unit {0}) PieceError → ℕ → Option Stop
+stop_of (Ok u) i = None
+stop_of (Err piece.Bad) i = Some (stop.Bad i)
+stop_of (Err piece.Differs) i = Some (stop.Differs i)

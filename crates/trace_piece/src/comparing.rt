@@ -3,10 +3,11 @@ ghost use Rattle.std.specs.Prelude.{◌≡◌};
 ghost use Rattle.uf2_receiver.specs.Receiver.{lent_at, world};
 ghost use Rattle.trace_piece.specs.Compared.{piece_of};
 
-use crate::PieceAnswer;
+use crate::PieceError;
 use partitions::Settings;
 use transfer::Transfer;
 
+// Kept, C interface: the five buffers are lent one by one, as the calls for C lend them.
 // What comes of a piece: its arrival is looked at where it is a record.
 pub fn judge(
     settings: Settings,
@@ -17,11 +18,11 @@ pub fn judge(
     sectors: &[u8],
     main: &[u8],
     xip: &[u8],
-) -> PieceAnswer
+) -> Result<(), PieceError>
     ensures { result ≡ (piece_of settings (world transfer (lent_at flash.now seen.now sectors.now main.now xip.now)) piece.now).answer }
 {
     if crate::is_bad(piece) {
-        return PieceAnswer::Bad;
+        return Err(PieceError::Bad);
     }
     let looked = uf2_receiver::looking::look(
         settings,
@@ -33,6 +34,5 @@ pub fn judge(
         main,
         xip,
     );
-    let answer = looked.answer;
-    crate::compared(piece[0], answer, looked.discarded)
+    crate::compared(piece[0], looked.answer, looked.discarded)
 }

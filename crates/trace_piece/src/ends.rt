@@ -1,10 +1,9 @@
-// The two ends of a replay: both maps cleared before it; where it stops, by the place of that piece, and how many records stand before.
-ghost use Rattle.std.specs.Prelude.{◌≡◌, ◌/◌, length};
+// The two ends of a replay: both maps cleared before it, and how many records stand before where it stops.
+ghost use Rattle.std.specs.Prelude.{◌≡◌, length};
 ghost use Rattle.memory.specs.Bitmap.{unmarked};
-ghost use Rattle.trace_piece.specs.Piece.{stop_of};
 ghost use Rattle.trace_piece.specs.Ends.{before_stop};
 
-use crate::{PieceAnswer, Stop};
+use crate::Stop;
 
 // Takes every mark out of both maps.
 pub fn clear_maps(seen: &mut [u8], sectors: &mut [u8])
@@ -14,20 +13,13 @@ pub fn clear_maps(seen: &mut [u8], sectors: &mut [u8])
     memory::bitmap::clear(sectors);
 }
 
-// Where a replay stops, by what came of the piece that begins at a byte of the trace.
-pub fn stop_at(answer: PieceAnswer, at: usize) -> Stop
-    ensures { result ≡ stop_of answer (at / 513) }
-{
-    crate::stop_of(answer, at / crate::RECORD)
-}
-
 // How many records stand before the stop, of a trace with so many whole pieces.
-pub fn before_stop(stop: Stop, pieces: usize) -> usize
+pub fn before_stop(stop: Option<Stop>, pieces: usize) -> usize
     ensures { result ≡ before_stop pieces stop }
 {
     match stop {
-        Stop::None => pieces,
-        Stop::Bad(index) => index,
-        Stop::Differs(index) => index,
+        None => pieces,
+        Some(Stop::Bad(index)) => index,
+        Some(Stop::Differs(index)) => index,
     }
 }

@@ -1,30 +1,28 @@
 -- Traces by cases, as the code comes to them. Assumes nothing.
-use Prim.Native.Nat.{ℕ, zero, suc, ◌+◌, ◌-◌, ◌*◌, ◌/◌, ◌<◌, ◌≤◌, min}
+use Prim.Native.Nat.{ℕ, suc, ◌+◌, ◌-◌, ◌*◌, ◌/◌, ◌<◌, ◌≤◌, min}
 use mathlib.Core.Path.{◌≡◌, refl, sym, ap, ◌∙◌}
-use mathlib.Core.Bool.{true, false}
 use mathlib.Core.List.{List, [], ◌∷◌}
 use native.Mathlib.Numerals.{add-one}
+use Rattle.std.specs.Prelude.{Option, Some, None, Ok, Err}
 use native.Mathlib.Omega.{arith}
 use lib.Dec.{leb}
 use lib.ListN.{length, get_or, take, drop, length-take, length-drop, drop_of_length-le}
 use lib.Seq.{take_all, drop-drop}
 use borrow.Author.Tests.{leb-true, leb-false}
-use Rattle.laws.proofs.Tests.{split, clash}
+use Rattle.laws.proofs.Tests.{split}
 use Rattle.memory.specs.Bitmap.{unmarked}
 use Rattle.partitions.specs.declared.Settings.{Settings}
 use Rattle.transfer.specs.Transfer.{fresh}
 use Rattle.transfer.specs.declared.Transfer.{Transfer}
 use Rattle.arrival.specs.Arrive.{Lent, World}
 use Rattle.uf2_receiver.specs.Receiver.{lent, world}
-use Rattle.trace_piece.specs.declared.PieceAnswer.{PieceAnswer}
-use Rattle.trace_piece.specs.declared.PieceAnswer.TheVariants as piece
+use Rattle.trace_piece.specs.declared.PieceError.{PieceError}
+use Rattle.trace_piece.specs.declared.PieceError.TheVariants.{Bad, Differs}
 use Rattle.trace_piece.specs.declared.Stop.{Stop}
-use Rattle.trace_piece.specs.declared.Stop.TheVariants.{None, Bad, Differs}
 use Rattle.trace_piece.specs.Piece.{is_replayed, stop_of}
-use Rattle.trace_replay.specs.declared.one_piece.PieceReceipt.{PieceReceipt}
-use Rattle.trace_replay.specs.Trace.{PieceOutcome, piece_outcome, piece_of}
+use Rattle.trace_replay.specs.Trace.{PieceOutcome, piece_of, piece_return}
 use Rattle.trace_piece.proofs.comparing.Laws.{piece_taken}
-use Rattle.trace_counts.specs.Tally.{tallied, recorded_at, tally_to}
+use Rattle.trace_counts.specs.Tally.{tallied, tally_to}
 use Rattle.trace_replay.specs.Replay.{cut, pieces_of, TraceOutcome, trace_outcome, went_on, replay_from, begun, replay_of, before_stop, TallyOutcome, tally_outcome, with_counts}
 
 -- ---- the pieces that are left
@@ -78,18 +76,19 @@ module _ (s : Settings) (trace : List ℕ) (at i : ℕ) (u : Transfer) (h : Lent
   abbrev pub left : TraceOutcome
   left = replay_from s i (world u h) (pieces_of (drop at trace))
 
-  module _ (more : at < length trace) {to : ℕ} (e : to ≡ at + min 513 (length trace - at)) {r : PieceReceipt} {k : Lent} (q : piece_outcome r.answer (world r.transfer k) ≡ piece_of s (world u h) (take (to - at) (drop at trace))) where
-    turned : left ≡ went_on i (piece_outcome r.answer (world r.transfer k)) (replay_from s (i + 1) (world r.transfer k) (pieces_of (drop to trace)))
+  module _ (more : at < length trace) {to : ℕ} (e : to ≡ at + min 513 (length trace - at)) {o : PieceOutcome} (q : o ≡ piece_of s (world u h) (take (to - at) (drop at trace))) where
+    turned : left ≡ went_on i o (replay_from s (i + 1) o.world (pieces_of (drop to trace)))
     unfolding replay_from
     turned =
         let some : 0 < length (drop at trace) = rw (length-drop at trace) (omega arith) in
         rw (pieces_next (drop at trace) some, ← piece_is trace at e, ← q, left_is trace at e) refl
 
-    pub run_stops : is_replayed r.answer ≡ false → {x : Stop} → x ≡ stop_of r.answer i → trace_outcome x (world r.transfer k) ≡ left
-    run_stops z hx = sym (turned ∙ rw (z, hx))
+  -- a piece that is not replayed, and one that is
+  pub run_stops : at < length trace → {to : ℕ} → to ≡ at + min 513 (length trace - at) → {x : PieceError} {k : Lent} → piece_return u (Err x) k ≡ piece_of s (world u h) (take (to - at) (drop at trace)) → {y : Option Stop} → y ≡ stop_of (Err x) i → trace_outcome y (world u k) ≡ left
+  run_stops more e q hy = sym (turned more e q ∙ rw (← hy) refl)
 
-    pub run_goes_on : {j : ℕ} → j ≡ i + 1 → is_replayed r.answer ≡ true → replay_from s j (world r.transfer k) (pieces_of (drop to trace)) ≡ left
-    run_goes_on e y = sym (turned ∙ rw (y, e))
+  pub run_goes_on : at < length trace → {to : ℕ} → to ≡ at + min 513 (length trace - at) → {v : Transfer} {k : Lent} → piece_return u (Ok v) k ≡ piece_of s (world u h) (take (to - at) (drop at trace)) → {next : ℕ} → to ≡ next → replay_from s (i + 1) (world v k) (pieces_of (drop next trace)) ≡ left
+  run_goes_on more e {v} {k} q n = ap (λ (j : ℕ). replay_from s (i + 1) (world v k) (pieces_of (drop j trace))) (sym n) ∙ sym (turned more e q)
 
   pub run_ends : length trace ≤ at → trace_outcome None (world u h) ≡ left
   unfolding replay_from
@@ -108,51 +107,37 @@ pub tally_none : (l t : List ℕ) → l ≡ tally_to l t 0
 unfolding tally_to
 tally_none l t = refl
 
--- one record more: it begins where `at` stands
-pub tally_more : (l₀ t : List ℕ) (at i : ℕ) {j : ℕ} {l m : List ℕ} → j ≡ i + 1 → at ≡ 513 * i → l ≡ tally_to l₀ t i → m ≡ tallied l (get_or t at 0) → m ≡ tally_to l₀ t j
+-- one record more
+pub tally_more : (l₀ t : List ℕ) (i : ℕ) {l m : List ℕ} → l ≡ tally_to l₀ t i → m ≡ tallied l (get_or t (513 * i) 0) → m ≡ tally_to l₀ t (i + 1)
 unfolding tally_to
-tally_more l₀ t at i n e h q = q ∙ rw (n, add-one i, e, h)
+tally_more l₀ t i h q = q ∙ rw (add-one i, h)
 
 -- a piece that is replayed is whole
-pub whole_next : (s : Settings) (w : World) (t : List ℕ) (at i : ℕ) {to : ℕ} {x : PieceAnswer} {v : World} → at ≡ 513 * i → to ≡ at + min 513 (length t - at)
-    → piece_outcome x v ≡ piece_of s w (take (to - at) (drop at t)) → is_replayed x ≡ true → to ≡ 513 * (i + 1)
-whole_next s w t at i {to} e h q y =
-    let p = take (to - at) (drop at t) in
-    let long = (piece_taken s w p (ap (λ (o : PieceOutcome). is_replayed o.answer) (sym q) ∙ y)).long in
-    omega (arith, e, h, long, length-take (to - at) (drop at t), length-drop at t)
+pub whole_next : (s : Settings) (u : Transfer) (h : Lent) (t : List ℕ) (i : ℕ) {to : ℕ} {v : Transfer} {k : Lent} → to ≡ 513 * i + min 513 (length t - 513 * i)
+    → piece_return u (Ok v) k ≡ piece_of s (world u h) (take (to - 513 * i) (drop (513 * i) t)) → to ≡ 513 * (i + 1)
+whole_next s u h t i {to} e q =
+    let p = take (to - 513 * i) (drop (513 * i) t) in
+    let long = (piece_taken s (world u h) p (ap (λ (o : PieceOutcome). is_replayed o.answer) (sym q))).long in
+    omega (arith, e, long, length-take (to - 513 * i) (drop (513 * i) t), length-drop (513 * i) t)
 
--- so the next begins at a whole number of pieces, and has the next index
-pub begins_next : (at to : ℕ) → to ≡ 513 * (at / 513 + 1) → to ≡ 513 * (to / 513)
-begins_next at to e = omega (arith, e)
-
-pub index_next : (at to : ℕ) → to ≡ 513 * (at / 513 + 1) → to / 513 ≡ at / 513 + 1
-index_next at to e = omega (arith, e)
-
-stop_before : (x : PieceAnswer) (n i : ℕ) → is_replayed x ≡ false → before_stop n (stop_of x i) ≡ i
-stop_before piece.Replayed n i z = clash true refl z
-stop_before piece.Bad n i z = refl
-stop_before piece.Differs n i z = refl
+stop_before : (x : PieceError) (n i : ℕ) → before_stop n (stop_of (Err x) i) ≡ i
+stop_before Bad n i = refl
+stop_before Differs n i = refl
 
 module _ (l₀ t : List ℕ) (i : ℕ) {l : List ℕ} (h : l ≡ tally_to l₀ t i) {o : TraceOutcome} {w : World} where
   -- at a stop, and at the end
-  tally_stops : (x : PieceAnswer) {y : Stop} → is_replayed x ≡ false → y ≡ stop_of x i → trace_outcome y w ≡ o → tally_outcome (trace_outcome y w) l ≡ with_counts l₀ t o
+  pub tally_stops : (x : PieceError) {y : Option Stop} → y ≡ stop_of (Err x) i → trace_outcome y w ≡ o → tally_outcome (trace_outcome y w) l ≡ with_counts l₀ t o
   unfolding with_counts
-  tally_stops x z hy e =
-      let n : before_stop (length t / 513) o.stop ≡ i = ap (λ (o : TraceOutcome). before_stop (length t / 513) o.stop) (sym e) ∙ ap (before_stop (length t / 513)) hy ∙ stop_before x (length t / 513) i z in
+  tally_stops x hy e =
+      let n : before_stop (length t / 513) o.stop ≡ i = ap (λ (o : TraceOutcome). before_stop (length t / 513) o.stop) (sym e) ∙ ap (before_stop (length t / 513)) hy ∙ stop_before x (length t / 513) i in
       rw (n, ← h, e)
 
-  pub tally_ends : (at : ℕ) → at ≡ 513 * i → at ≤ length t → length t ≤ at → trace_outcome None w ≡ o → tally_outcome (trace_outcome None w) l ≡ with_counts l₀ t o
+  pub tally_ends : length t ≡ 513 * i → trace_outcome None w ≡ o → tally_outcome (trace_outcome None w) l ≡ with_counts l₀ t o
   unfolding with_counts
-  tally_ends at a b c e =
-      let n : length t / 513 ≡ i = omega (arith, a, b, c) in
+  tally_ends a e =
+      let n : length t / 513 ≡ i = omega (arith, a) in
       let m : before_stop (length t / 513) o.stop ≡ i = ap (λ (o : TraceOutcome). before_stop (length t / 513) o.stop) (sym e) ∙ n in
       rw (m, ← h, e)
-
--- a stop, as the loop comes to it
-pub stops_counted : (s : Settings) (l₀ trace : List ℕ) (at i : ℕ) (u : Transfer) (h : Lent) → at < length trace → {to : ℕ} → to ≡ at + min 513 (length trace - at) → {r : PieceReceipt} {k : Lent} → piece_outcome r.answer (world r.transfer k) ≡ piece_of s (world u h) (take (to - at) (drop at trace))
-    → is_replayed r.answer ≡ false → {x : Stop} → x ≡ stop_of r.answer i → {l : List ℕ} → l ≡ tally_to l₀ trace i → {o : TraceOutcome} → left s trace at i u h ≡ o → tally_outcome (trace_outcome x (world r.transfer k)) l ≡ with_counts l₀ trace o
-stops_counted s l₀ trace at i u h more e {r} {k} q z hx hl eo =
-    tally_stops l₀ trace i hl r.answer z hx (run_stops s trace at i u h more e {r = r} {k = k} q z hx ∙ eo)
 
 -- without the tally
 pub outcome_alone : (l t : List ℕ) {o p : TraceOutcome} {m : List ℕ} → tally_outcome p m ≡ with_counts l t o → p ≡ o

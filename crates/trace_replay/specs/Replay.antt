@@ -1,5 +1,5 @@
 -- A whole trace (02, L10): its pieces one after the other, from Idle. Assumes nothing.
-use Rattle.std.specs.Prelude.{ℕ, zero, suc, ◌+◌, ◌/◌, cond, List, [], ◌∷◌, length, take, drop}
+use Rattle.std.specs.Prelude.{ℕ, zero, suc, ◌+◌, ◌/◌, cond, List, [], ◌∷◌, Option, None, length, take, drop}
 use Rattle.memory.specs.Bitmap.{unmarked}
 use Rattle.partitions.specs.declared.Settings.{Settings}
 use Rattle.transfer.specs.Transfer.{fresh}
@@ -7,7 +7,6 @@ use Rattle.transfer.specs.declared.Transfer.{Transfer}
 use Rattle.arrival.specs.Arrive.{Lent, World}
 use Rattle.uf2_receiver.specs.Receiver.{lent, world}
 use Rattle.trace_piece.specs.declared.Stop.{Stop}
-use Rattle.trace_piece.specs.declared.Stop.TheVariants.{None}
 use Rattle.trace_piece.specs.Piece.{is_replayed, stop_of}
 pub use Rattle.trace_piece.specs.Ends.{before_stop}
 use Rattle.trace_replay.specs.Trace.{PieceOutcome, piece_of}
@@ -28,11 +27,11 @@ pieces_of l = cut ((length l + 512) / 513) l
 
 -- where it stopped, with the transfer and the buffers that it leaves
 pub record TraceOutcome : Type 0 where
-  pub stop : Stop
+  pub stop : Option Stop
   pub world : World
 
 -- both as one value, which the contract names
-abbrev pub trace_outcome : Stop → World → TraceOutcome
+abbrev pub trace_outcome : Option Stop → World → TraceOutcome
 trace_outcome x w = record { stop = x; world = w }
 
 -- a piece that is not replayed, with index i, stops the replay; else what the pieces after it come to is what comes
@@ -62,7 +61,7 @@ abbrev pub tally_outcome : TraceOutcome → List ℕ → TallyOutcome
 tally_outcome o l = record { outcome = o; tally = l }
 
 -- all of it as one value, which the contract names
-abbrev pub tally_return : Stop → Transfer → List ℕ → Lent → TallyOutcome
+abbrev pub tally_return : Option Stop → Transfer → List ℕ → Lent → TallyOutcome
 tally_return x u l h = tally_outcome (trace_outcome x (world u h)) l
 
 -- the records before the stop counted in a tally that was l

@@ -3,7 +3,7 @@
 
 pub mod one_piece;
 
-ghost use Rattle.std.specs.Prelude.{◌≡◌, ◌+◌, ◌-◌, ◌≤◌, min};
+ghost use Rattle.std.specs.Prelude.{◌≡◌};
 ghost use Rattle.uf2_receiver.specs.Receiver.{lent_at, left_at, world};
 ghost use Rattle.trace_replay.specs.Replay.{trace_outcome, replay_of, tally_return, counted_run, counted_replay};
 
@@ -15,22 +15,10 @@ use transfer::Transfer;
 #[derive(Clone, Copy)]
 pub struct TraceReceipt {
     pub transfer: Transfer,
-    pub stop: Stop,
+    pub stop: Option<Stop>,
 }
 
-// The end of the piece that begins at `at`: the last may be shorter.
-fn piece_end(at: usize, len: usize) -> usize
-    requires { at ≤ len }
-    ensures { result ≡ at + min 513 (len - at) }
-{
-    let left = len - at;
-    if trace_piece::RECORD <= left {
-        at + trace_piece::RECORD
-    } else {
-        len
-    }
-}
-
+// Kept, C interface: the five buffers are lent one by one, as the calls for C lend them.
 // The pieces of a trace one after the other, from Idle: each that is replayed is counted in the tally.
 fn run(
     settings: Settings,
@@ -46,10 +34,11 @@ fn run(
 {
     let len = trace.len();
     let mut t = Transfer::new();
-    let mut at: usize = 0;
-    while at < len {
-        let to = piece_end(at, len);
-        let done = crate::one_piece::replay_piece(
+    for k in 0..len.div_ceil(trace_piece::RECORD) {
+        let at = trace_piece::RECORD * k;
+        // The last piece may be shorter.
+        let to = at + trace_piece::RECORD.min(len - at);
+        let next = crate::one_piece::replay_piece(
             settings,
             t,
             &trace[at..to],
@@ -59,21 +48,20 @@ fn run(
             main,
             xip,
         );
-        let answer = done.answer;
-        let next = done.transfer;
-        if !answer.is_replayed() {
-            return TraceReceipt {
-                transfer: next,
-                stop: trace_piece::ends::stop_at(answer, at),
-            };
+        match next {
+            Ok(next) => t = next,
+            Err(error) => {
+                return TraceReceipt {
+                    transfer: t,
+                    stop: trace_piece::stop_of(Err(error), k),
+                };
+            }
         }
         trace_counts::tallies::count(tally, trace[at]);
-        t = next;
-        at = to;
     }
     TraceReceipt {
         transfer: t,
-        stop: Stop::None,
+        stop: None,
     }
 }
 
@@ -106,6 +94,7 @@ pub fn replay(
 ) -> TraceReceipt
     ensures { trace_outcome result.stop (world result.transfer (left_at flash.new seen.new sectors.new main.new xip.new)) ≡ replay_of settings (lent_at flash.old seen.old sectors.old main.old xip.old) trace.now }
 {
+    // Kept, contract: replay_counted takes a tally of any length, and one of none counts nothing.
     let mut tally = [0usize; 0];
     replay_counted(settings, trace, &mut tally, flash, seen, sectors, main, xip)
 }

@@ -1,13 +1,14 @@
 -- The claims of specs/Claims.antt hold. Assumes nothing.
-use Prim.Native.Nat.{ℕ, zero, suc, ◌+◌, ◌-◌, ◌*◌, ◌/◌, ◌≤◌, ◌<◌, min}
+use Prim.Native.Nat.{ℕ, zero, suc, ◌+◌, ◌-◌, ◌*◌, ◌/◌, ◌≤◌, ◌<◌}
 use mathlib.Core.Path.{◌≡◌, refl, sym, ap, subst, ◌∙◌}
 use mathlib.Core.Logic.{◌≢◌}
 use mathlib.Core.Bool.{Bool, true, false}
 use mathlib.Core.List.{List, [], ◌∷◌, ◌++◌}
 use native.Mathlib.Numerals.{add-one}
+use Rattle.std.specs.Prelude.{Option, Some, None}
 use native.Mathlib.Omega.{arith}
 use lib.Dec.{ltb, eqb}
-use lib.ListN.{length, get_or, take, drop, length-take, length-drop, length-append, get_or-eq_default}
+use lib.ListN.{length, get_or, drop, length-take, length-drop, length-append, get_or-eq_default}
 use lib.Seq.{drop-drop, take_at, drop_at}
 use borrow.Author.Tests.{ltb-true, ltb-false, eqb-true, eqb-false}
 use Rattle.laws.specs.Sets.{one}
@@ -25,10 +26,10 @@ use Rattle.trace_piece.specs.Piece.{recorded, is_bad, agrees}
 use Rattle.trace_replay.specs.Trace.{piece_of}
 use Rattle.trace_replay.specs.Replay.{pieces_of, TraceOutcome, trace_outcome, replay_from, begun, replay_of}
 use Rattle.trace_piece.specs.declared.Stop.{Stop}
-use Rattle.trace_piece.specs.declared.Stop.TheVariants.{None, Bad, Differs}
+use Rattle.trace_piece.specs.declared.Stop.TheVariants.{Bad, Differs}
 use Rattle.trace_replay.proofs.Laws.{pieces_none, pieces_next}
 use Rattle.trace_report.specs.Pieces.{IsRecord, piece_at, arrival_at, arrivals_to, records_before}
-use Rattle.trace_report.specs.Claims.{our_record, after, IsOurs, BeginsIdle, StoppedAt, StopIsTheFirst, EndsAfter, EndsBeforeTheStop, recording_of, AllWhole, RecordingReplays}
+use Rattle.trace_report.specs.Claims.{our_record, after, IsOurs, BeginsIdle, StoppedAt, StopIsTheFirst, EndsBeforeTheStop, recording_of, AllWhole, RecordingReplays}
 use Rattle.trace_report.proofs.Records.{good, good_record, record_good, not_bad, agree_written, written_agree}
 
 -- ---- what the replay comes to
@@ -37,12 +38,12 @@ module _ (s : Settings) (w : World) (p : List ℕ) (l : List (List ℕ)) (i : �
   abbrev whole : TraceOutcome
   whole = replay_from s i w (p ∷ l)
 
-  from_bad : is_bad p ≡ true → whole ≡ trace_outcome (Bad i) w
+  from_bad : is_bad p ≡ true → whole ≡ trace_outcome (Some (Bad i)) w
   unfolding replay_from piece_of
   from_bad b = rw b
 
   module _ (g : is_bad p ≡ false) where
-    from-differs : agrees (recorded p) (receive_of s w (drop 1 p)).answer (receive_of s w (drop 1 p)).discarded ≡ false → whole ≡ trace_outcome (Differs i) w
+    from-differs : agrees (recorded p) (receive_of s w (drop 1 p)).answer (receive_of s w (drop 1 p)).discarded ≡ false → whole ≡ trace_outcome (Some (Differs i)) w
     unfolding replay_from piece_of
     from-differs a = rw (g, a)
 
@@ -169,20 +170,20 @@ module _ (s : Settings) (h : Lent) (t : List ℕ) where
   -- ---- no other stop is right
 
   -- where a stop stands among the pieces
-  abbrev index : Stop → ℕ
+  abbrev index : Option Stop → ℕ
   index None = (length t + 512) / 513
-  index (Bad i) = i
-  index (Differs i) = i
+  index (Some (Bad i)) = i
+  index (Some (Differs i)) = i
 
-  ours_below : (x : Stop) → StoppedAt s h t x → (k : ℕ) → k < index x → IsOurs s h t k
+  ours_below : (x : Option Stop) → StoppedAt s h t x → (k : ℕ) → k < index x → IsOurs s h t k
   ours_below None c k l = c k (omega arith)
-  ours_below (Bad i) c k l = c.1 k l
-  ours_below (Differs i) c k l = c.1 k l
+  ours_below (Some (Bad i)) c k l = c.1 k l
+  ours_below (Some (Differs i)) c k l = c.1 k l
 
-  in_trace : (x : Stop) → StoppedAt s h t x → index x ≤ (length t + 512) / 513
+  in_trace : (x : Option Stop) → StoppedAt s h t x → index x ≤ (length t + 512) / 513
   in_trace None c = omega arith
-  in_trace (Bad i) c = omega (arith, c.0)
-  in_trace (Differs i) c = omega (arith, c.0)
+  in_trace (Some (Bad i)) c = omega (arith, c.0)
+  in_trace (Some (Differs i)) c = omega (arith, c.0)
 
   ours_record : (k : ℕ) → IsOurs s h t k → IsRecord (piece_at t k)
   ours_record k o =
@@ -196,23 +197,23 @@ module _ (s : Settings) (h : Lent) (t : List ℕ) where
         is = o.1;
       }
 
-  no_later : (x y : Stop) → StoppedAt s h t x → StoppedAt s h t y → index x < index y → ⊥
+  no_later : (x y : Option Stop) → StoppedAt s h t x → StoppedAt s h t y → index x < index y → ⊥
   no_later None y c d l = omega (arith, in_trace y d)
-  no_later (Bad i) y c d l = c.2 (ours_record i (ours_below y d i l))
-  no_later (Differs i) y c d l = c.3 (ours_below y d i l)
+  no_later (Some (Bad i)) y c d l = c.2 (ours_record i (ours_below y d i l))
+  no_later (Some (Differs i)) y c d l = c.3 (ours_below y d i l)
 
-  same_stop : (x y : Stop) → StoppedAt s h t x → StoppedAt s h t y → index x ≡ index y → x ≡ y
+  same_stop : (x y : Option Stop) → StoppedAt s h t x → StoppedAt s h t y → index x ≡ index y → x ≡ y
   same_stop None None c d e = refl
-  same_stop None (Bad j) c d e = absurd (omega (arith, d.0))
-  same_stop None (Differs j) c d e = absurd (omega (arith, d.0))
-  same_stop (Bad i) None c d e = absurd (omega (arith, c.0))
-  same_stop (Bad i) (Bad j) c d e = ap Bad e
-  same_stop (Bad i) (Differs j) c d e = absurd (c.2 (subst (λ (k : ℕ). IsRecord (piece_at t k)) (sym e) d.2))
-  same_stop (Differs i) None c d e = absurd (omega (arith, c.0))
-  same_stop (Differs i) (Bad j) c d e = absurd (d.2 (subst (λ (k : ℕ). IsRecord (piece_at t k)) e c.2))
-  same_stop (Differs i) (Differs j) c d e = ap Differs e
+  same_stop None (Some (Bad j)) c d e = absurd (omega (arith, d.0))
+  same_stop None (Some (Differs j)) c d e = absurd (omega (arith, d.0))
+  same_stop (Some (Bad i)) None c d e = absurd (omega (arith, c.0))
+  same_stop (Some (Bad i)) (Some (Bad j)) c d e = ap (λ (k : ℕ). Some (Bad k)) e
+  same_stop (Some (Bad i)) (Some (Differs j)) c d e = absurd (c.2 (subst (λ (k : ℕ). IsRecord (piece_at t k)) (sym e) d.2))
+  same_stop (Some (Differs i)) None c d e = absurd (omega (arith, c.0))
+  same_stop (Some (Differs i)) (Some (Bad j)) c d e = absurd (d.2 (subst (λ (k : ℕ). IsRecord (piece_at t k)) e c.2))
+  same_stop (Some (Differs i)) (Some (Differs j)) c d e = ap (λ (k : ℕ). Some (Differs k)) e
 
-  one_stop : (x y : Stop) → StoppedAt s h t x → StoppedAt s h t y → x ≡ y
+  one_stop : (x y : Option Stop) → StoppedAt s h t x → StoppedAt s h t y → x ≡ y
   one_stop x y c d =
       split (ltb (index x) (index y))
       (λ l. absurd (no_later x y c d (ltb-true (index x) (index y) l)))
@@ -234,10 +235,10 @@ ends_before_the_stop s h t =
     let x = (replay_of s h t).stop in
     record { world = r.ended; ours = λ k l. ours_below s h t x r.stopped k (below x l) }
   where
-    below : (x : Stop) {k : ℕ} → k < records_before t x → k < index s h t x
+    below : (x : Option Stop) {k : ℕ} → k < records_before t x → k < index s h t x
     below None l = omega arith
-    below (Bad i) l = l
-    below (Differs i) l = l
+    below (Some (Bad i)) l = l
+    below (Some (Differs i)) l = l
 
 -- ---- a recording of our own
 

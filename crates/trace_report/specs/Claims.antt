@@ -1,6 +1,6 @@
 -- What is claimed of a replay (02, L10), whatever the settings, the buffers and the trace. proofs/ proves each claim, in lower case.
 -- Assumes nothing.
-use Rattle.std.specs.Prelude.{ℕ, ◌*◌, ◌<◌, ◌≡◌, ◌↔◌, List, [], ◌∷◌, ◌++◌, length, get_or}
+use Rattle.std.specs.Prelude.{ℕ, ◌*◌, ◌<◌, ◌≡◌, ◌↔◌, List, [], ◌∷◌, ◌++◌, Option, Some, None, length, get_or}
 use Rattle.laws.specs.Sets.{one}
 use Rattle.partitions.specs.declared.Settings.{Settings}
 use Rattle.transfer.specs.Transfer.{number_of}
@@ -9,7 +9,7 @@ use Rattle.arrival.specs.Arrive.{Lent, World, lent_of, receive_of}
 use Rattle.arrival.specs.Lists.{receive_all}
 use Rattle.trace_replay.specs.Replay.{TraceOutcome, trace_outcome, begun, replay_of}
 use Rattle.trace_piece.specs.declared.Stop.{Stop}
-use Rattle.trace_piece.specs.declared.Stop.TheVariants.{None, Bad, Differs}
+use Rattle.trace_piece.specs.declared.Stop.TheVariants.{Bad, Differs}
 use Rattle.trace_report.specs.Pieces.{written, IsRecord, piece_at, arrival_at, arrivals_to, records_before}
 
 -- ---- our own records
@@ -44,15 +44,15 @@ BeginsIdle = (h : Lent) → Begins h (begun h)
 
 -- "stops at the first record that is short or has stray bits ("bad" and its index from 0) or else whose recorded answer or discard differs
 -- from ours ("differs" and its index); else it says "none""
-abbrev pub StoppedAt : Settings → Lent → List ℕ → Stop → Type 0
+abbrev pub StoppedAt : Settings → Lent → List ℕ → Option Stop → Type 0
 StoppedAt s h t None = (k : ℕ) → 513 * k < length t → IsOurs s h t k
-StoppedAt s h t (Bad i) = (513 * i < length t) × ((k : ℕ) → k < i → IsOurs s h t k) × (IsRecord (piece_at t i) → ⊥)
-StoppedAt s h t (Differs i) =
+StoppedAt s h t (Some (Bad i)) = (513 * i < length t) × ((k : ℕ) → k < i → IsOurs s h t k) × (IsRecord (piece_at t i) → ⊥)
+StoppedAt s h t (Some (Differs i)) =
     (513 * i < length t) × ((k : ℕ) → k < i → IsOurs s h t k) × IsRecord (piece_at t i) × (IsOurs s h t i → ⊥)
 
 -- in both directions
 unfoldable pub StopIsTheFirst : Type 0
-StopIsTheFirst = (s : Settings) (h : Lent) (t : List ℕ) (x : Stop) → ((replay_of s h t).stop ≡ x) ↔ StoppedAt s h t x
+StopIsTheFirst = (s : Settings) (h : Lent) (t : List ℕ) (x : Option Stop) → ((replay_of s h t).stop ≡ x) ↔ StoppedAt s h t x
 
 -- "The end state is the one after the records before the stop", of which each is ours
 pub record EndsAfter (s : Settings) (h : Lent) (t : List ℕ) (o : TraceOutcome) : Type 0 where

@@ -1,7 +1,7 @@
 -- A trace by how its records are written and where its pieces stand (02, L10). Assumes nothing.
-use Rattle.std.specs.Prelude.{ℕ, zero, suc, ◌+◌, ◌*◌, ◌/◌, ◌≤◌, ◌≡◌, List, [], ◌∷◌, ◌++◌, length, take, drop}
+use Rattle.std.specs.Prelude.{ℕ, zero, suc, ◌+◌, ◌*◌, ◌/◌, ◌≤◌, ◌≡◌, List, [], ◌∷◌, ◌++◌, Option, Some, None, length, take, drop}
 use Rattle.trace_piece.specs.declared.Stop.{Stop}
-use Rattle.trace_piece.specs.declared.Stop.TheVariants.{None, Bad, Differs}
+use Rattle.trace_piece.specs.declared.Stop.TheVariants.{Bad, Differs}
 
 -- ---- a record as it is written
 
@@ -34,7 +34,7 @@ arrivals_to t zero = []
 arrivals_to t (suc n) = arrivals_to t n ++ (arrival_at t n ∷ [])
 
 -- how many records stand before the stop
-abbrev pub records_before : List ℕ → Stop → ℕ
+abbrev pub records_before : List ℕ → Option Stop → ℕ
 records_before t None = length t / 513
-records_before t (Bad i) = i
-records_before t (Differs i) = i
+records_before t (Some (Bad i)) = i
+records_before t (Some (Differs i)) = i

@@ -20,10 +20,12 @@ pub extern "C" fn uf2_figures(
 {
     let was = trace_layout::reports::read_report(report);
     let s = settings_layout::read_settings(settings);
-    let added = trace_report::add(was, s, trace, flash, seen, sectors, main, xip);
-    let answer = added.answer;
-    let next = added.report;
-    trace_layout::keep_report(report, answer, next);
-    trace_layout::keep_index(index, answer);
-    trace_layout::result(answer)
+    match trace_report::add(was, s, trace, flash, seen, sectors, main, xip) {
+        Ok(added) => {
+            trace_layout::reports::write_report(report, added.report);
+            trace_layout::put_stop(index, added.stop);
+            trace_layout::result(Ok(added.stop))
+        }
+        Err(error) => trace_layout::result(Err(error)),
+    }
 }

@@ -20,9 +20,7 @@ pub extern "C" fn uf2_replay(
 {
     let s = settings_layout::read_settings(settings);
     let r = trace_replay::replay(s, trace, flash, seen, sectors, main, xip);
-    let end = r.transfer;
-    let stop = r.stop;
-    transfer_layout::write_transfer(transfer, end);
-    trace_layout::put_stop(index, stop);
-    trace_layout::number(stop)
+    transfer_layout::write_transfer(transfer, r.transfer);
+    trace_layout::put_stop(index, r.stop);
+    trace_layout::number(r.stop)
 }

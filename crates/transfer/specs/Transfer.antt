@@ -1,5 +1,5 @@
 -- The transfer (01, "One arrival, checks in this order"): its answers' numbers, row 3, and rows 12 to 15 with 02's 16 and 17. Assumes nothing.
-use Rattle.std.specs.Prelude.{ℕ, ◌+◌, Bool, true, false, ◌&&◌, cond, ltb, leb, eqb}
+use Rattle.std.specs.Prelude.{ℕ, ◌+◌, Bool, true, false, ◌&&◌, cond, ltb, leb, eqb, Result, Ok, Err}
 use Rattle.transfer.specs.declared.Kind.{Kind}
 use Rattle.transfer.specs.declared.Kind.TheVariants.{Flash, MainRam, XipRam}
 use Rattle.transfer.specs.declared.Head.{Head}
@@ -8,8 +8,6 @@ use Rattle.transfer.specs.declared.State.TheVariants.{Idle, Running, Done}
 use Rattle.transfer.specs.declared.Transfer.{Transfer}
 use Rattle.transfer.specs.declared.Unchanged.{Unchanged}
 use Rattle.transfer.specs.declared.Accepted.{Accepted}
-use Rattle.transfer.specs.declared.Step.{Step}
-use Rattle.transfer.specs.declared.Step.TheVariants.{Stays, Accepts}
 use Rattle.transfer.specs.declared.Deed.{Deed}
 use Rattle.transfer.specs.declared.Deed.TheVariants.{Stores, Notes, Keeps}
 use Rattle.transfer.specs.declared.Answer.{Answer}
@@ -116,16 +114,20 @@ with_deed d y =
       clears = y.clears;
     }
 
+-- what a block does to a transfer: it is accepted, or it changes nothing
+abbrev pub Step : Type 0
+Step = Result Accepted Unchanged
+
 -- rows 12 to 15 (and 16, 17), of a block of head g whose number is marked or not, and which does d once it is accepted
 unfoldable pub step_of : State → Head → Bool → Deed → Step
-step_of Idle g marked d = Accepts (accepted d true false g 1)
+step_of Idle g marked d = Ok (accepted d true false g 1)
 step_of (Running r) g marked d =
     cond (same_head r.head g)
-    (cond marked (Stays (kept_state (Running r) Again)) (Accepts (accepted d false false g (r.count + 1))))
-    (Accepts (accepted d true true g 1))
-step_of (Done h) g marked d = Stays (kept_state (Done h) Finished)
+    (cond marked (Err (kept_state (Running r) Again)) (Ok (accepted d false false g (r.count + 1))))
+    (Ok (accepted d true true g 1))
+step_of (Done h) g marked d = Err (kept_state (Done h) Finished)
 
 -- the number of a step's answer
 abbrev pub step_number : Step → ℕ
-step_number (Stays x) = number_of x.answer
-step_number (Accepts k) = number_of k.answer
+step_number (Err x) = number_of x.answer
+step_number (Ok k) = number_of k.answer

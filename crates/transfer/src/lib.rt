@@ -8,7 +8,7 @@ ghost use Rattle.laws.specs.Numbered.{numbered};
 ghost use Rattle.transfer.specs.Transfer.{kind_number, same_kind, head_with, number_of, fresh, good_state, same_head, deed_answer, accepted, step_of, step_number};
 
 // Where a transfer's pages go: to the flash, to main RAM or to XIP RAM.
-#[derive(Clone, Copy)]
+#[derive(Clone, Copy, PartialEq, Eq)]
 pub enum Kind {
     Flash,
     MainRam,
@@ -27,15 +27,14 @@ impl Kind {
     }
 }
 
-// Kinds are compared by their numbers.
 pub fn same_kind(a: Kind, b: Kind) -> bool
     ensures { result ≡ same_kind a b }
 {
-    a.number() == b.number()
+    a == b
 }
 
 // What makes two blocks one transfer.
-#[derive(Clone, Copy)]
+#[derive(Clone, Copy, PartialEq, Eq)]
 pub struct Head {
     pub family: u32,
     pub total: u32,
@@ -119,13 +118,6 @@ pub struct Accepted {
     pub clears: bool,
 }
 
-// What a block does to a transfer, with the next transfer and the answer in both cases.
-#[derive(Clone, Copy)]
-pub enum Step {
-    Stays(Unchanged),
-    Accepts(Accepted),
-}
-
 impl Answer {
     pub fn number(self) -> u8
         ensures { result ≡ number_of self }
@@ -152,13 +144,11 @@ impl Answer {
 }
 
 // Are the heads one? Then two blocks belong to one transfer.
+#[tactic(auto, unfolding(crate::specs::Transfer::same_head))]
 pub fn same_head(g: Head, h: Head) -> bool
     ensures { result ≡ same_head g h }
 {
-    let current = g.kind;
-    let other = h.kind;
-    let same = same_kind(current, other);
-    (g.family == h.family) & (g.total == h.total) & same
+    g == h
 }
 
 // The answer to a block that does not complete its transfer.
@@ -220,15 +210,16 @@ impl Transfer {
         }
     }
 
-    // What a block of this head does, whose number is marked or not, and which does `deed` once it is accepted.
-    pub fn step(self, head: Head, marked: bool, deed: Deed) -> Step
+    // What a block of this head does, whose number is marked or not, and which does `deed` once it is accepted. An error is a block that
+    // changes nothing.
+    pub fn step(self, head: Head, marked: bool, deed: Deed) -> Result<Accepted, Unchanged>
         ensures { numbered step_number result ≡ numbered step_number (step_of self.state head marked deed) }
     {
         let state = self.state;
         match state {
-            State::Idle => Step::Accepts(accept(deed, head, 0, true, false)),
+            State::Idle => Ok(accept(deed, head, 0, true, false)),
             State::Running(run) => go_on(run, head, marked, deed),
-            State::Done(_) => Step::Stays(Unchanged {
+            State::Done(_) => Err(Unchanged {
                 transfer: self,
                 answer: Answer::Finished,
             }),
@@ -237,20 +228,20 @@ impl Transfer {
 }
 
 // What a block of this head does to a running transfer.
-fn go_on(run: Run, head: Head, marked: bool, deed: Deed) -> Step
+fn go_on(run: Run, head: Head, marked: bool, deed: Deed) -> Result<Accepted, Unchanged>
     ensures { result ≡ step_of (State.Running run) head marked deed }
 {
     let current = run.head;
-    if !same_head(current, head) {
-        return Step::Accepts(accept(deed, head, 0, true, true));
+    if current != head {
+        return Ok(accept(deed, head, 0, true, true));
     }
     if marked {
         let state = State::Running(run);
         let transfer = Transfer { state };
-        return Step::Stays(Unchanged {
+        return Err(Unchanged {
             transfer,
             answer: Answer::Again,
         });
     }
-    Step::Accepts(accept(deed, head, run.count, false, false))
+    Ok(accept(deed, head, run.count, false, false))
 }

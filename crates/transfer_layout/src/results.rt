@@ -9,8 +9,7 @@ use transfer::Answer;
 pub fn result(answer: Answer, discarded: bool) -> u8
     ensures { result ≡ result_of (number_of answer) discarded }
 {
-    let n = answer.number();
-    if discarded { n + 128 } else { n }
+    returned(answer.number(), discarded) as u8
 }
 
 // The same of an answer's number, as a call returns it.

@@ -5,16 +5,15 @@ ghost use Rattle.transfer_layout.specs.States.{kind_from, no_state, state_of};
 use transfer::{Head, Kind, Run, State};
 
 // The kind of a number. Any but 1 and 2 gives Flash; `state` refuses one over 2 afterwards, unless the transfer is Idle.
+#[tactic(auto, unfolding(crate::specs::States::kind_from))]
 pub fn kind(number: u8) -> Kind
     ensures { result ≡ kind_from number }
 {
-    if number == 1 {
-        return Kind::MainRam;
+    match number {
+        1 => Kind::MainRam,
+        2 => Kind::XipRam,
+        _ => Kind::Flash,
     }
-    if number == 2 {
-        return Kind::XipRam;
-    }
-    Kind::Flash
 }
 
 // Of another tag than 0, 1 and 2, and of another kind where it is not Idle: a running transfer that is bad.

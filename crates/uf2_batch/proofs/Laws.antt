@@ -6,6 +6,11 @@ use mathlib.Core.List.{List, [], ◌∷◌}
 use native.Mathlib.Omega.{arith}
 use lib.ListN.{length, take, drop, set, length-take, length-drop}
 use lib.Seq.{drop-drop}
+use lib.Dec.{leb}
+use borrow.Author.Tests.{leb-true, leb-false}
+use Rattle.std.specs.Prelude.{min}
+use Rattle.std.proofs.Math.Nat.{min-eq_left, min-eq_right}
+use Rattle.laws.proofs.Tests.{split}
 use Rattle.uf2_block.specs.Block.{field_at}
 use Rattle.partitions.specs.declared.Settings.{Settings}
 use Rattle.placement.specs.Place.{StartsLow}
@@ -84,6 +89,11 @@ stays_on s g h k q e =
 
 pub arrival_size : (n i : ℕ) (a : List ℕ) → i < n → n ≤ length a / 512 → length (take (i * 512 + 512 - i * 512) (drop (i * 512) a)) ≡ 512
 arrival_size n i a l m = simp (length-take, length-drop) (omega arith)
+
+-- ---- how many are taken
+
+pub fewest : (a b : ℕ) → min a b ≡ fewer a b
+fewest a b = split (leb a b) (λ h. rw h (min-eq_left (leb-true a b h))) (λ h. rw h (min-eq_right (omega (arith, leb-false a b h))))
 
 -- ---- the arrivals that are left
 

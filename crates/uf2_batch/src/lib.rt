@@ -24,13 +24,6 @@ pub struct Batch {
     pub accepted: bool,
 }
 
-fn at_most(a: usize, b: usize) -> usize
-    ensures value { result ≡ fewer a b }
-    ensures low { (result ≤ a) × (result ≤ b) }
-{
-    if a <= b { a } else { b }
-}
-
 // What one arrival of many comes to: what the settings say of its family, the next transfer, its result, and whether its block was accepted.
 #[derive(Clone, Copy)]
 struct Turn {
@@ -89,16 +82,14 @@ pub fn take_all(
 ) -> Batch
     ensures { batch_left result results.new (left_at flash.new seen.new sectors.new main.new xip.new) ≡ batch_of settings (world transfer (lent_at flash.old seen.old sectors.old main.old xip.old)) arrivals.now results.old }
 {
-    let n = at_most(arrivals.len() / Block::ARRIVAL, results.len());
+    let n = (arrivals.len() / Block::ARRIVAL).min(results.len());
     let first = crate::opening::judge_lent(settings, Family::DATA, flash, seen, sectors, main, xip);
     let mut kept = first.kept;
     let mut next = transfer;
     let mut accepted = false;
-    let mut i: usize = 0;
-    while i < n {
+    for i in 0..n {
         let from = i * Block::ARRIVAL;
         let to = from + Block::ARRIVAL;
-        let after = i + 1;
         let turn = take_next(
             first.right,
             first.good,
@@ -116,7 +107,6 @@ pub fn take_all(
         next = turn.transfer;
         results[i] = turn.result;
         accepted = accepted | turn.accepted;
-        i = after;
     }
     Batch {
         number: n,

@@ -10,12 +10,12 @@ use lib.Dec.{leb, eqb}
 use lib.ListN.{length, get_or, set, length-set}
 use lib.Seq.{get_or-set_same, get_or-set_other}
 use borrow.Author.Tests.{leb-true, leb-false, eq-eqb, ne_eqb}
+use Rattle.std.specs.Prelude.{Ok, Err}
 use Rattle.laws.proofs.Tests.{split}
 use Rattle.laws.proofs.BytesLaws.{number_four}
 use Rattle.uf2_block.specs.declared.Block.{Block}
-use Rattle.uf2_block.specs.declared.Header.{Header}
-use Rattle.uf2_block.specs.declared.Header.TheVariants.{NotBlock, Container, NoFamily, Found}
-use Rattle.uf2_block.specs.Block.{field_at, fields_of, has_flag, flagged_of, is_block, header_of, header_number}
+use Rattle.uf2_block.specs.declared.HeaderError.TheVariants.{NotBlock, Container, NoFamily}
+use Rattle.uf2_block.specs.Block.{field_at, fields_of, has_flag, flagged_of, is_block, header_of, header_number, Header}
 use Rattle.uf2_block.specs.Region.{region_of}
 -- one field, at any offset
 pub use Rattle.uf2_block.proofs.words.Laws.{field_number, field_in_lem, field_past}
@@ -24,31 +24,31 @@ pub use Rattle.uf2_block.proofs.words.Laws.{field_number, field_in_lem, field_pa
 
 -- n is the flags
 module _ (a : List ℕ) {n : ℕ} (e : n ≡ field_at a 8) where
-  pub flagged_container : n / 0x1000 % 2 ≡ 1 → Container ≡ flagged_of a
+  pub flagged_container : n / 0x1000 % 2 ≡ 1 → Err Container ≡ flagged_of a
   unfolding flagged_of
   flagged_container h = rw (← e, eq-eqb (n / 0x1000 % 2) 1 h)
 
   module _ (p : n / 0x1000 % 2 ≡ 1 → ⊥) where
-    pub flagged_bare : (n / 0x2000 % 2 ≡ 1 → ⊥) → NoFamily ≡ flagged_of a
+    pub flagged_bare : (n / 0x2000 % 2 ≡ 1 → ⊥) → Err NoFamily ≡ flagged_of a
     unfolding flagged_of
     flagged_bare h = rw (← e, ne_eqb (n / 0x1000 % 2) 1 p, ne_eqb (n / 0x2000 % 2) 1 h)
 
-    pub flagged_found : n / 0x2000 % 2 ≡ 1 → {b : Block} → b ≡ fields_of a → Found b ≡ flagged_of a
+    pub flagged_found : n / 0x2000 % 2 ≡ 1 → {b : Block} → b ≡ fields_of a → Ok b ≡ flagged_of a
     unfolding flagged_of
     flagged_found h f = rw (← e, ne_eqb (n / 0x1000 % 2) 1 p, eq-eqb (n / 0x2000 % 2) 1 h, f)
 
 module _ (a : List ℕ) where
-  pub header_first : (field_at a 0 ≡ 0x0A324655 → ⊥) → header_of a ≡ NotBlock
+  pub header_first : (field_at a 0 ≡ 0x0A324655 → ⊥) → header_of a ≡ Err NotBlock
   unfolding header_of
   header_first n = rw (ne_eqb (field_at a 0) 0x0A324655 n) refl
 
   module _ (p : field_at a 0 ≡ 0x0A324655) where
-    pub header_second : (field_at a 4 ≡ 0x9E5D5157 → ⊥) → header_of a ≡ NotBlock
+    pub header_second : (field_at a 4 ≡ 0x9E5D5157 → ⊥) → header_of a ≡ Err NotBlock
     unfolding header_of
     header_second n = rw (eq-eqb (field_at a 0) 0x0A324655 p, ne_eqb (field_at a 4) 0x9E5D5157 n) refl
 
     module _ (q : field_at a 4 ≡ 0x9E5D5157) where
-      pub header_last : (field_at a 508 ≡ 0x0AB16F30 → ⊥) → header_of a ≡ NotBlock
+      pub header_last : (field_at a 508 ≡ 0x0AB16F30 → ⊥) → header_of a ≡ Err NotBlock
       unfolding header_of
       header_last n = rw (eq-eqb (field_at a 0) 0x0A324655 p, eq-eqb (field_at a 4) 0x9E5D5157 q, ne_eqb (field_at a 508) 0x0AB16F30 n) refl
 
@@ -59,23 +59,23 @@ module _ (a : List ℕ) where
 -- ---- row 4 alone
 
 -- the three tests in a row, over the header that follows them
-tests : (p q r : Bool) (h : Header) → cond (not p) NotBlock (cond (not q) NotBlock (cond (not r) NotBlock h)) ≡ cond (p && q && r) h NotBlock
+tests : (p q r : Bool) (h : Header) → cond (not p) (Err NotBlock) (cond (not q) (Err NotBlock) (cond (not r) (Err NotBlock) h)) ≡ cond (p && q && r) h (Err NotBlock)
 tests true true true h = refl
 tests true true false h = refl
 tests true false r h = refl
 tests false q r h = refl
 
-pub header_is_block : (a : List ℕ) → header_of a ≡ cond (is_block a) (flagged_of a) NotBlock
+pub header_is_block : (a : List ℕ) → header_of a ≡ cond (is_block a) (flagged_of a) (Err NotBlock)
 unfolding header_of is_block
 header_is_block a = tests (eqb (field_at a 0) 0x0A324655) (eqb (field_at a 4) 0x9E5D5157) (eqb (field_at a 508) 0x0AB16F30) (flagged_of a)
 
-flags_other : (p r : Bool) (f : Block) → header_number (cond p Container (cond (not r) NoFamily (Found f))) ≡ 4 → ⊥
+flags_other : (p r : Bool) (f : Block) → header_number (cond p (Err Container) (cond (not r) (Err NoFamily) (Ok f))) ≡ 4 → ⊥
 flags_other true r f e = omega arith
 flags_other false true f e = omega arith
 flags_other false false f e = omega arith
 
 -- the flags give no answer 4
-pub flagged_other : (a : List ℕ) → flagged_of a ≡ NotBlock → ⊥
+pub flagged_other : (a : List ℕ) → flagged_of a ≡ Err NotBlock → ⊥
 unfolding flagged_of
 flagged_other a e = flags_other (has_flag a 0x1000) (has_flag a 0x2000) (fields_of a) (ap header_number e)
 

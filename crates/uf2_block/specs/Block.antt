@@ -1,10 +1,14 @@
 -- A UF2 block (01, "A UF2 block"): its fields, and what its header says. Assumes nothing.
-use Rattle.std.specs.Prelude.{ℕ, ◌/◌, ◌%◌, Bool, not, cond, ◌&&◌, List, eqb}
+use Rattle.std.specs.Prelude.{ℕ, ◌/◌, ◌%◌, Bool, not, cond, ◌&&◌, List, eqb, Result, Ok, Err}
 use Rattle.uf2_block.specs.declared.Block.{Block}
-use Rattle.uf2_block.specs.declared.Header.{Header}
-use Rattle.uf2_block.specs.declared.Header.TheVariants.{NotBlock, Container, NoFamily, Found}
+use Rattle.uf2_block.specs.declared.HeaderError.{HeaderError}
+use Rattle.uf2_block.specs.declared.HeaderError.TheVariants.{NotBlock, Container, NoFamily}
 -- fields, from `words`
 unfoldable pub use Rattle.uf2_block.specs.Field.{field_at}
+
+-- what a header yields: a block, or a refusal
+abbrev pub Header : Type 0
+Header = Result Block HeaderError
 
 -- "8 flags": is the flag of weight f set?
 abbrev pub has_flag : List ℕ → ℕ → Bool
@@ -25,9 +29,9 @@ fields_of a =
 -- "Flags: .. 0x1000 container, 0x2000 family present", asked in the order of answers 5 ("also when 0x1 is set") and 7
 unfoldable pub flagged_of : List ℕ → Header
 flagged_of a =
-    cond (has_flag a 0x1000) Container
-    (cond (not (has_flag a 0x2000)) NoFamily
-    (Found (fields_of a)))
+    cond (has_flag a 0x1000) (Err Container)
+    (cond (not (has_flag a 0x2000)) (Err NoFamily)
+    (Ok (fields_of a)))
 
 -- row 4 alone, for those who ask no later row: "0 magic 0x0A324655, 4 magic 0x9E5D5157, .. 508 magic 0x0AB16F30"
 unfoldable pub is_block : List ℕ → Bool
@@ -36,14 +40,14 @@ is_block a = eqb (field_at a 0) 0x0A324655 && eqb (field_at a 4) 0x9E5D5157 && e
 -- "Read the header first; if that yields no block, no other field counts": "0 magic 0x0A324655, 4 magic 0x9E5D5157, .. 508 magic 0x0AB16F30"
 unfoldable pub header_of : List ℕ → Header
 header_of a =
-    cond (not (eqb (field_at a 0) 0x0A324655)) NotBlock
-    (cond (not (eqb (field_at a 4) 0x9E5D5157)) NotBlock
-    (cond (not (eqb (field_at a 508) 0x0AB16F30)) NotBlock
+    cond (not (eqb (field_at a 0) 0x0A324655)) (Err NotBlock)
+    (cond (not (eqb (field_at a 4) 0x9E5D5157)) (Err NotBlock)
+    (cond (not (eqb (field_at a 508) 0x0AB16F30)) (Err NotBlock)
     (flagged_of a)))
 
 -- the numbers of the refusals; a block is none, and has 0
 abbrev pub header_number : Header → ℕ
-header_number NotBlock = 4
-header_number Container = 5
-header_number NoFamily = 7
-header_number (Found b) = 0
+header_number (Err NotBlock) = 4
+header_number (Err Container) = 5
+header_number (Err NoFamily) = 7
+header_number (Ok b) = 0

@@ -2,11 +2,8 @@
 ghost use Rattle.std.specs.Prelude.{◌≡◌};
 ghost use Rattle.uf2_block.specs.Regions.{good_region};
 
-use crate::Region;
+use crate::{Block, Region};
 use memory::flash::Flash;
-
-// Where the address window begins, which is where a place's first byte is seen.
-const WINDOW: usize = 0x10000000;
 
 // Does a region count for a block at an address, in a place of so many bytes? Its end may pass 32 bits.
 pub fn good(region: Region, size: usize, address: u32) -> bool
@@ -23,11 +20,11 @@ pub fn good(region: Region, size: usize, address: u32) -> bool
     if len == 0 {
         return false;
     }
-    if start < WINDOW {
+    if start < Block::WINDOW {
         return false;
     }
     let past = start + len;
-    if size < past - WINDOW {
+    if size < past - Block::WINDOW {
         return false;
     }
     let at = address as usize;

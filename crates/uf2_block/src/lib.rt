@@ -24,17 +24,17 @@ pub struct Block {
     pub comment: bool,
 }
 
-// What the header of an arrival says: a refusal, or a block.
+// Why the header of an arrival yields no block.
 #[derive(Clone, Copy)]
-pub enum Header {
+pub enum HeaderError {
     NotBlock,
     Container,
     NoFamily,
-    Found(Block),
 }
 
 // The region that a block with flag 0x4000 names: its start, an address of the window, its length, and the words A, B, C, D of its MD5 digest.
-#[derive(Clone, Copy)]
+// Kept, contract: its digest is not a `Digest`, since region_of, same_digest and theorems of crates above name the four words as its fields.
+#[derive(Clone, Copy, PartialEq, Eq)]
 pub struct Region {
     pub start: u32,
     pub len: u32,
@@ -46,6 +46,9 @@ pub struct Region {
 
 impl Block {
     pub const ARRIVAL: usize = 512;
+
+    // Where the address window begins, which is where a place's first byte is seen.
+    pub const WINDOW: usize = 0x10000000;
 
     pub const MAGIC_FIRST: u32 = 0x0A324655;
 
@@ -83,36 +86,36 @@ pub fn fields(arrival: &[u8]) -> Block
         number: field(arrival, 20),
         total: field(arrival, 24),
         family: field(arrival, 28),
-        comment: field(arrival, 8) / Block::FLAG_NOT_MAIN_FLASH % 2 == 1,
+        comment: field(arrival, 8) & Block::FLAG_NOT_MAIN_FLASH != 0,
     }
 }
 
 // The header of an arrival whose magic numbers are right.
-fn flagged(arrival: &[u8]) -> Header
+fn flagged(arrival: &[u8]) -> Result<Block, HeaderError>
     ensures { result ≡ flagged_of arrival.now }
 {
     let flags = field(arrival, 8);
     if flags / Block::FLAG_CONTAINER % 2 == 1 {
-        return Header::Container;
+        return Err(HeaderError::Container);
     }
     if flags / Block::FLAG_FAMILY % 2 != 1 {
-        return Header::NoFamily;
+        return Err(HeaderError::NoFamily);
     }
-    Header::Found(fields(arrival))
+    Ok(fields(arrival))
 }
 
-// The header of an arrival.
-pub fn read(arrival: &[u8]) -> Header
+// The block that the header of an arrival yields, or why it yields none.
+pub fn read(arrival: &[u8]) -> Result<Block, HeaderError>
     ensures { numbered header_number result ≡ numbered header_number (header_of arrival.now) }
 {
     if field(arrival, 0) != Block::MAGIC_FIRST {
-        return Header::NotBlock;
+        return Err(HeaderError::NotBlock);
     }
     if field(arrival, 4) != Block::MAGIC_SECOND {
-        return Header::NotBlock;
+        return Err(HeaderError::NotBlock);
     }
     if field(arrival, 508) != Block::MAGIC_LAST {
-        return Header::NotBlock;
+        return Err(HeaderError::NotBlock);
     }
     flagged(arrival)
 }
@@ -121,7 +124,7 @@ pub fn read(arrival: &[u8]) -> Header
 pub fn has_region(arrival: &[u8]) -> bool
     ensures { result ≡ has_flag arrival.now 0x4000 }
 {
-    field(arrival, 8) / Block::FLAG_MD5 % 2 == 1
+    field(arrival, 8) & Block::FLAG_MD5 != 0
 }
 
 // The region that a block names.

@@ -2,17 +2,20 @@
 ghost use Rattle.std.specs.Prelude.{◌≡◌};
 ghost use Rattle.uf2_block.specs.Regions.{same_digest, stands_in};
 
-use crate::Region;
+use crate::{Block, Region};
 use md5_digest::Digest;
 
-// Where the address window begins, which is where a place's first byte is seen.
-const WINDOW: usize = 0x10000000;
-
 // Is this the digest that a region names?
-fn same_digest(found: Digest, region: Region) -> bool
+pub fn same_digest(found: Digest, region: Region) -> bool
     ensures { result ≡ same_digest found region }
 {
-    (found.a == region.a) & (found.b == region.b) & (found.c == region.c) & (found.d == region.d)
+    found
+        == Digest {
+            a: region.a,
+            b: region.b,
+            c: region.c,
+            d: region.d,
+        }
 }
 
 // Does the flash have a region's digest, in a place that starts at `start`? A region that is not in the flash has none. Nothing is added before
@@ -22,10 +25,10 @@ pub fn stands(flash: &[u8], start: usize, region: Region) -> bool
 {
     let address = region.start as usize;
     let len = region.len as usize;
-    if address < WINDOW {
+    if address < Block::WINDOW {
         return false;
     }
-    let offset = address - WINDOW;
+    let offset = address - Block::WINDOW;
     if flash.len() < len {
         return false;
     }

@@ -1,38 +1,30 @@
 -- The screening by cases: the header, the place, and a block beside its place. Assumes nothing.
 use mathlib.Core.Path.{◌≡◌, refl, sym, ap, ◌∙◌}
 use mathlib.Core.Bool.{Bool, true, false, ◌&&◌, ◌||◌, cond}
-use mathlib.Core.List.{List, [], ◌∷◌}
-use mathlib.Core.Logic.{◌≢◌, ⊎_elim}
-use types.Run.{OneOf}
-use denote.Enum.Declared.{tag_of}
+use mathlib.Core.List.{List}
+use mathlib.Core.Logic.{◌≢◌}
 use Prim.Native.Nat.{ℕ, ◌+◌, ◌*◌, ◌<◌, ◌≤◌}
 use native.Mathlib.Omega.{arith}
 use lib.Dec.{ltb, leb, eqb}
 use borrow.Author.Tests.{le-leb, le-ltb, lt-leb, eq-eqb, ne_eqb, ltb-false, leb-false, eqb-false}
+use Rattle.std.specs.Prelude.{Option, Some, None, Ok, Err}
 use Rattle.laws.proofs.Tests.{split, or_left, or_right}
-use Rattle.uf2_block.specs.contracts.Header.{the_type}
-use Rattle.uf2_block.specs.Block.{header_of, header_number}
+use Rattle.uf2_block.specs.Block.{header_of, header_number, Header}
 use Rattle.uf2_block.specs.declared.Block.{Block}
-use Rattle.uf2_block.specs.declared.Header.{Header}
-use Rattle.uf2_block.specs.declared.Header.TheVariants as header
+use Rattle.uf2_block.specs.declared.HeaderError.TheVariants as header
 use Rattle.placement.specs.Place.{StartsLow}
 use Rattle.placement.specs.declared.Place.{Place}
-use Rattle.placement.specs.declared.Place.TheVariants.{Nowhere, At}
 use Rattle.transfer.specs.Transfer.{head_with}
 use Rattle.transfer.specs.declared.Head.{Head}
 use Rattle.transfer.specs.declared.Kind.{Kind}
 use Rattle.transfer.specs.declared.Kind.TheVariants.{Flash, MainRam, XipRam}
 use Rattle.transfer.specs.declared.State.{State}
 use Rattle.transfer.specs.declared.State.TheVariants.{Idle, Done}
-use Rattle.transfer.specs.declared.Answer.TheVariants.{NoPlace, BadPayload, BadNumbers, BadAddress}
-use Rattle.uf2_checks.specs.Screen.{base_of, extent_of, is_lent, in_window, window_of, own_kind, note_kind, room_in, bad_numbers, strayed, noted, window_kind, data_found, note_found, found, after_header, low_place, low_rooms, screen_in, screen_at, screening_number}
+use Rattle.transfer.specs.declared.Answer.TheVariants.{BadPayload, BadNumbers, BadAddress}
+use Rattle.uf2_checks.specs.Screen.{base_of, extent_of, is_lent, in_window, window_of, own_kind, note_kind, room_in, bad_numbers, strayed, noted, window_kind, data_found, note_found, found, after_header, low_place, low_rooms, screen_in, screen_at, screening_number, Screening, Window}
 use Rattle.uf2_checks.specs.declared.Lengths.{Lengths}
 use Rattle.uf2_checks.specs.declared.Rooms.{Rooms}
-use Rattle.uf2_checks.specs.declared.Window.{Window}
-use Rattle.uf2_checks.specs.declared.Window.TheVariants.{Outside, In}
 use Rattle.uf2_checks.specs.declared.Body.TheVariants.{Note}
-use Rattle.uf2_checks.specs.declared.Screening.{Screening}
-use Rattle.uf2_checks.specs.declared.Screening.TheVariants.{Refused, Passed}
 
 -- ---- the window of an address, as the code asks it
 
@@ -43,21 +35,21 @@ window_low MainRam = omega arith
 window_low XipRam = omega arith
 
 module _ (n : Lengths) (x : ℕ) where
-  pub window_flash : in_window n Flash x ≡ true → window_of n x ≡ In Flash
+  pub window_flash : in_window n Flash x ≡ true → window_of n x ≡ Some Flash
   unfolding window_of
   window_flash f = rw f
 
   module _ (f : in_window n Flash x ≡ false) where
-    pub window_main : in_window n MainRam x ≡ true → window_of n x ≡ In MainRam
+    pub window_main : in_window n MainRam x ≡ true → window_of n x ≡ Some MainRam
     unfolding window_of
     window_main m = rw (f, m)
 
     module _ (m : in_window n MainRam x ≡ false) where
-      pub window_xip : in_window n XipRam x ≡ true → window_of n x ≡ In XipRam
+      pub window_xip : in_window n XipRam x ≡ true → window_of n x ≡ Some XipRam
       unfolding window_of
       window_xip q = rw (f, m, q)
 
-      pub window_none : in_window n XipRam x ≡ false → window_of n x ≡ Outside
+      pub window_none : in_window n XipRam x ≡ false → window_of n x ≡ None
       unfolding window_of
       window_none q = rw (f, m, q)
 
@@ -92,23 +84,23 @@ module _ (size : ℕ) (b : Block) where
 -- ---- a data block in no window
 
 module _ (b : Block) where
-  pub strayed_payload : b.size ≢ 256 → strayed b ≡ Refused BadPayload
+  pub strayed_payload : b.size ≢ 256 → strayed b ≡ Err BadPayload
   unfolding strayed
   strayed_payload n = rw (ne_eqb b.size 256 n)
 
-  pub strayed_address : b.size ≡ 256 → strayed b ≡ Refused BadAddress
+  pub strayed_address : b.size ≡ 256 → strayed b ≡ Err BadAddress
   unfolding strayed
   strayed_address p = rw (eq-eqb b.size 256 p)
 
 -- ---- a comment beside its place
 
 module _ (k : Kind) (size : ℕ) (b : Block) where
-  pub noted_numbers : bad_numbers size b ≡ true → noted k size b ≡ Refused BadNumbers
+  pub noted_numbers : bad_numbers size b ≡ true → noted k size b ≡ Err BadNumbers
   unfolding noted
   noted_numbers h = rw h
 
   pub noted_passed : bad_numbers size b ≡ false → {g : Head} → g ≡ head_with k b.family b.total
-      → Passed (record { head = g; number = b.number; body = Note }) ≡ noted k size b
+      → Ok (record { head = g; number = b.number; body = Note }) ≡ noted k size b
   unfolding noted
   noted_passed h e = rw (h, e)
 
@@ -123,15 +115,6 @@ module _ (n : Lengths) (h : Head) (f total : ℕ) {lent : Bool} (e : lent ≡ is
 
   pub own_other : Own && lent ≡ false → own_kind n h f total ≡ Flash
   own_other q = ap (λ (c : Bool). cond c h.kind Flash) (ap (λ (x : Bool). Own && x) (sym e) ∙ q)
-
--- "any other is flash": one to a transfer that is Idle or Done
-pub note_idle : (n : Lengths) (b : Block) → note_kind n Idle b ≡ Flash
-unfolding note_kind
-note_idle n b = refl
-
-pub note_done : (n : Lengths) (g : Head) (b : Block) → note_kind n (Done g) b ≡ Flash
-unfolding note_kind
-note_done n g b = refl
 
 -- ---- a block
 
@@ -151,45 +134,45 @@ module _ (r : Rooms) (n : Lengths) (t : State) (b : Block) where
   found_data h = ap (λ (c : Bool). cond c (note_at (note_kind n t b)) (data_at (window_of n b.address))) h
 
   -- as the code goes, call by call
-  pub check_comment : b.comment ≡ true → {k : Kind} → k ≡ note_kind n t b → {p : Place} → p ≡ room_in r k → {x : Screening} → x ≡ note_found k p b → x ≡ found r n t b
-  check_comment h {k} e q y = y ∙ ap (λ (p : Place). note_found k p b) q ∙ ap note_at e ∙ sym (found_comment h)
+  pub check_comment : b.comment ≡ true → {k : Kind} → k ≡ note_kind n t b → {p : Option Place} → p ≡ room_in r k → {x : Screening} → x ≡ note_found k p b → x ≡ found r n t b
+  check_comment h {k} e q y = y ∙ ap (λ (p : Option Place). note_found k p b) q ∙ ap note_at e ∙ sym (found_comment h)
 
-  pub check_window : b.comment ≡ false → {u : Window} → u ≡ window_of n b.address → {k : Kind} → k ≡ window_kind u → {p : Place} → p ≡ room_in r k
+  pub check_window : b.comment ≡ false → {u : Window} → u ≡ window_of n b.address → {k : Kind} → k ≡ window_kind u → {p : Option Place} → p ≡ room_in r k
       → {x : Screening} → x ≡ data_found u p b → x ≡ found r n t b
   check_window h {u} e q i y =
-      y ∙ ap (λ (p : Place). data_found u p b) (i ∙ ap (room_in r) q) ∙ ap data_at e ∙ sym (found_data h)
+      y ∙ ap (λ (p : Option Place). data_found u p b) (i ∙ ap (room_in r) q) ∙ ap data_at e ∙ sym (found_data h)
 
 -- ---- a place that is handed in
 
-pub low_past : (start size : ℕ) → 0x100000000000 ≤ start → low_place (At start size) ≡ Nowhere
-low_past start size h = rw (le-leb 0x100000000000 start h)
+pub low_past : (p : Place) → 0x100000000000 ≤ p.start → low_place (Some p) ≡ None
+low_past p h = rw (le-leb 0x100000000000 p.start h)
 
-pub low_kept : (p : Place) → StartsLow p → low_place p ≡ p
-low_kept Nowhere h = refl
-low_kept (At start size) h = rw (lt-leb 0x100000000000 start h)
+pub low_kept : (p : Option Place) → StartsLow p → low_place p ≡ p
+low_kept None h = refl
+low_kept (Some p) h = rw (lt-leb 0x100000000000 p.start h)
 
 -- ---- an arrival
 
 -- a header that is none but a refusal, by its tag
-pub refusal_header : (h : Header) → ((b : Block) → h ≢ header.Found b) → header_number h ≢ 0
-refusal_header header.NotBlock n = λ e. omega arith
-refusal_header header.Container n = λ e. omega arith
-refusal_header header.NoFamily n = λ e. omega arith
-refusal_header (header.Found b) n = absurd (n b refl)
+pub refusal_header : (h : Header) → ((b : Block) → h ≢ Ok b) → header_number h ≢ 0
+refusal_header (Err header.NotBlock) n = λ e. omega arith
+refusal_header (Err header.Container) n = λ e. omega arith
+refusal_header (Err header.NoFamily) n = λ e. omega arith
+refusal_header (Ok b) n = absurd (n b refl)
 
 module _ (r : Rooms) (n : Lengths) (t : State) (a : List ℕ) where
   pub screen_header : {h : Header} → h ≡ header_of a → {x : Screening} → x ≡ after_header h (found (low_rooms r) n t) → x ≡ screen_at r n t a
   unfolding screen_at screen_in
   screen_header e q = rw (sym e) q
 
-  pub screen_found : (b : Block) → header_of a ≡ header.Found b → screen_at r n t a ≡ found (low_rooms r) n t b
+  pub screen_found : (b : Block) → header_of a ≡ Ok b → screen_at r n t a ≡ found (low_rooms r) n t b
   unfolding screen_at screen_in
   screen_found b e = rw e
 
 -- ---- the numbers of the header's refusals are the answers'
 
 pub refusal_number : (h : Header) (next : Block → Screening) → header_number h ≢ 0 → screening_number (after_header h next) ≡ header_number h
-refusal_number header.NotBlock next n = refl
-refusal_number header.Container next n = refl
-refusal_number header.NoFamily next n = refl
-refusal_number (header.Found b) next n = absurd (n refl)
+refusal_number (Err header.NotBlock) next n = refl
+refusal_number (Err header.Container) next n = refl
+refusal_number (Err header.NoFamily) next n = refl
+refusal_number (Ok b) next n = absurd (n refl)

@@ -5,14 +5,13 @@ use mathlib.Core.Bool.{Bool, true, false, not, ◌&&◌, ◌||◌}
 use native.Mathlib.Omega.{arith}
 use lib.Dec.{ltb, leb, eqb}
 use borrow.Author.Tests.{leb-true, ltb-true, ltb-false, lt-ltb, le-leb, eqb-true, not-false}
+use Rattle.std.specs.Prelude.{Some, None}
 use Rattle.laws.proofs.Tests.{split, clash, and_left, and_right, or_left, or_right, both}
 use Rattle.uf2_block.specs.declared.Block.{Block}
 use Rattle.transfer.specs.declared.Kind.{Kind}
 use Rattle.transfer.specs.declared.Kind.TheVariants.{Flash, MainRam, XipRam}
-use Rattle.uf2_checks.specs.Screen.{base_of, extent_of, is_lent, in_window, window_of, bad_address}
+use Rattle.uf2_checks.specs.Screen.{base_of, extent_of, is_lent, in_window, window_of, bad_address, Window}
 use Rattle.uf2_checks.specs.declared.Lengths.{Lengths}
-use Rattle.uf2_checks.specs.declared.Window.{Window}
-use Rattle.uf2_checks.specs.declared.Window.TheVariants.{Outside, In}
 
 -- ---- windows
 
@@ -31,8 +30,8 @@ in_window_lem n k x e =
     }
 
 abbrev pub WindowFacts : Lengths → ℕ → Window → Type 0
-WindowFacts n x Outside = (k : Kind) → in_window n k x ≡ false
-WindowFacts n x (In k) = InWindow n k x
+WindowFacts n x None = (k : Kind) → in_window n k x ≡ false
+WindowFacts n x (Some k) = InWindow n k x
 
 pub window_facts : (n : Lengths) (x : ℕ) → WindowFacts n x (window_of n x)
 unfolding window_of
@@ -68,7 +67,7 @@ in_room XipRam size b h =
     record { whole = λ e. let z : ◌≡◌ {A = ℕ} 0 1 = cc in omega arith; inside = ltb-false _ _ h }
 
 -- in no window, row 11 fails beside any place of flash, so that it is no other answer that 11 goes before
-pub outside_bad : (n : Lengths) (size : ℕ) (b : Block) → window_of n b.address ≡ Outside → size ≤ 0x2000000 → bad_address Flash size b ≡ true
+pub outside_bad : (n : Lengths) (size : ℕ) (b : Block) → window_of n b.address ≡ None → size ≤ 0x2000000 → bad_address Flash size b ≡ true
 outside_bad n size b e h =
     let f = out (window_of n b.address) e (window_facts n b.address) in
     split (ltb b.address (base_of Flash))
@@ -82,9 +81,9 @@ outside_bad n size b e h =
     let o : ltb size (b.address - base_of Flash + 256) ≡ true = lt-ltb size (b.address - base_of Flash + 256) (omega (arith, low, high)) in
     rw (z, o) (last (not (eqb (b.address % 256) 0)))))
   where
-    out : (u : Window) → u ≡ Outside → WindowFacts n b.address u → in_window n Flash b.address ≡ false
-    out Outside e f = f Flash
-    out (In k) e f = let z : ◌≡◌ {A = ℕ} 0 1 = cc in absurd (omega arith)
+    out : (u : Window) → u ≡ None → WindowFacts n b.address u → in_window n Flash b.address ≡ false
+    out None e f = f Flash
+    out (Some k) e f = let z : ◌≡◌ {A = ℕ} 0 1 = cc in absurd (omega arith)
 
     last : (m : Bool) → m || true ≡ true
     last true = refl

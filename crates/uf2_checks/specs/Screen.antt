@@ -1,14 +1,12 @@
 -- Rows 4 to 11 of 01's checks, in their order, with comments as 02 (L3) has them, and flash and the two windows of RAM (02, L8).
 -- Assumes nothing.
-use Rattle.std.specs.Prelude.{ℕ, ◌+◌, ◌-◌, ◌*◌, ◌%◌, ◌≡◌, Bool, true, ◌&&◌, ◌||◌, not, cond, List, ltb, leb, eqb}
-use Rattle.uf2_block.specs.Block.{field_at, header_of}
+use Rattle.std.specs.Prelude.{ℕ, ◌+◌, ◌-◌, ◌*◌, ◌%◌, ◌≡◌, Bool, true, ◌&&◌, ◌||◌, not, cond, List, ltb, leb, eqb, Option, Some, None, Result, Ok, Err}
+use Rattle.uf2_block.specs.Block.{field_at, header_of, Header}
 use Rattle.uf2_block.specs.declared.Block.{Block}
-use Rattle.uf2_block.specs.declared.Header.{Header}
-use Rattle.uf2_block.specs.declared.Header.TheVariants as header
+use Rattle.uf2_block.specs.declared.HeaderError.TheVariants as header
 use Rattle.partitions.specs.declared.Settings.{Settings}
 use Rattle.placement.specs.Place.{whole_if, place_of, ram_family}
 use Rattle.placement.specs.declared.Place.{Place}
-use Rattle.placement.specs.declared.Place.TheVariants.{Nowhere, At}
 use Rattle.transfer.specs.Transfer.{head_with, number_of}
 use Rattle.transfer.specs.declared.Head.{Head}
 use Rattle.transfer.specs.declared.Kind.{Kind}
@@ -19,13 +17,17 @@ use Rattle.transfer.specs.declared.Answer.{Answer}
 use Rattle.transfer.specs.declared.Answer.TheVariants.{NotBlock, Container, NoFamily, NoPlace, BadPayload, BadNumbers, BadAddress}
 use Rattle.uf2_checks.specs.declared.Lengths.{Lengths}
 use Rattle.uf2_checks.specs.declared.Rooms.{Rooms}
-use Rattle.uf2_checks.specs.declared.Window.{Window}
-use Rattle.uf2_checks.specs.declared.Window.TheVariants.{Outside, In}
 use Rattle.uf2_checks.specs.declared.Body.{Body}
 use Rattle.uf2_checks.specs.declared.Body.TheVariants.{Page, Note}
 use Rattle.uf2_checks.specs.declared.PlacedBlock.{PlacedBlock}
-use Rattle.uf2_checks.specs.declared.Screening.{Screening}
-use Rattle.uf2_checks.specs.declared.Screening.TheVariants.{Refused, Passed}
+
+-- the window that an address lies in, by its kind
+abbrev pub Window : Type 0
+Window = Option Kind
+
+-- what rows 4 to 11 make of an arrival: a block that passes, or a refusal
+abbrev pub Screening : Type 0
+Screening = Result PlacedBlock Answer
 
 -- ---- the windows
 
@@ -54,9 +56,9 @@ in_window n k address = is_lent n k && leb (base_of k) address && ltb address (b
 -- the window that holds the address
 unfoldable pub window_of : Lengths → ℕ → Window
 window_of n address =
-    cond (in_window n Flash address) (In Flash)
-    (cond (in_window n MainRam address) (In MainRam)
-    (cond (in_window n XipRam address) (In XipRam) Outside))
+    cond (in_window n Flash address) (Some Flash)
+    (cond (in_window n MainRam address) (Some MainRam)
+    (cond (in_window n XipRam address) (Some XipRam) None))
 
 -- ---- the kind of a block
 
@@ -77,7 +79,7 @@ abbrev pub rooms_of : Settings → ℕ → ℕ → Rooms
 rooms_of s len f = record { flash = place_of s len f; ram = ram_family s f }
 
 -- the place of a block of each kind; in RAM the whole window, counted from its start
-abbrev pub room_in : Rooms → Kind → Place
+abbrev pub room_in : Rooms → Kind → Option Place
 room_in r Flash = r.flash
 room_in r MainRam = whole_if r.ram (extent_of MainRam)
 room_in r XipRam = whole_if r.ram (extent_of XipRam)
@@ -106,38 +108,38 @@ placed_at k body b = record { head = head_with k b.family b.total; number = b.nu
 -- "counted from the window's start"
 unfoldable pub placed : Kind → ℕ → ℕ → Block → Screening
 placed k start size b =
-    cond (not (eqb b.size 256)) (Refused BadPayload)
-    (cond (bad_numbers size b) (Refused BadNumbers)
-    (cond (bad_address k size b) (Refused BadAddress)
-    (Passed (placed_at k (Page (start + (b.address - base_of k))) b))))
+    cond (not (eqb b.size 256)) (Err BadPayload)
+    (cond (bad_numbers size b) (Err BadNumbers)
+    (cond (bad_address k size b) (Err BadAddress)
+    (Ok (placed_at k (Page (start + (b.address - base_of k))) b))))
 
 -- rows 9 to 11, of a data block in no window: "11 comes before 10", and its address is bad
 unfoldable pub strayed : Block → Screening
-strayed b = cond (not (eqb b.size 256)) (Refused BadPayload) (Refused BadAddress)
+strayed b = cond (not (eqb b.size 256)) (Err BadPayload) (Err BadAddress)
 
 -- rows 9 to 11, of a data block by its window
 abbrev pub fitted : Window → ℕ → ℕ → Block → Screening
-fitted Outside start size b = strayed b
-fitted (In k) start size b = placed k start size b
+fitted None start size b = strayed b
+fitted (Some k) start size b = placed k start size b
 
 -- row 10, of a comment: it "skips 9 and 11" (02, L3), so that its payload size and its address are not read
 unfoldable pub noted : Kind → ℕ → Block → Screening
-noted k size b = cond (bad_numbers size b) (Refused BadNumbers) (Passed (placed_at k Note b))
+noted k size b = cond (bad_numbers size b) (Err BadNumbers) (Ok (placed_at k Note b))
 
 -- "For an address in no window check 8 is flash's"
 abbrev pub window_kind : Window → Kind
-window_kind Outside = Flash
-window_kind (In k) = k
+window_kind None = Flash
+window_kind (Some k) = k
 
 -- rows 8 to 11, of a data block by its window and the place of its kind
-unfoldable pub data_found : Window → Place → Block → Screening
-data_found u Nowhere b = Refused NoPlace
-data_found u (At start size) b = fitted u start size b
+unfoldable pub data_found : Window → Option Place → Block → Screening
+data_found u None b = Err NoPlace
+data_found u (Some p) b = fitted u p.start p.len b
 
 -- rows 8 to 11, of a comment by its kind and the place of that
-unfoldable pub note_found : Kind → Place → Block → Screening
-note_found k Nowhere b = Refused NoPlace
-note_found k (At start size) b = noted k size b
+unfoldable pub note_found : Kind → Option Place → Block → Screening
+note_found k None b = Err NoPlace
+note_found k (Some p) b = noted k p.len b
 
 -- rows 8 to 11, of a block, with what the settings say of its family: "A comment block now meets checks 7, 8, 10, 12 and 13" (02, L3)
 unfoldable pub found : Rooms → Lengths → State → Block → Screening
@@ -150,14 +152,14 @@ found r n t b =
 
 -- rows 4 to 7: "Read the header first; if that yields no block, no other field counts"; `next` is what rows 8 to 11 make of a block
 abbrev pub after_header : Header → (Block → Screening) → Screening
-after_header header.NotBlock next = Refused NotBlock
-after_header header.Container next = Refused Container
-after_header header.NoFamily next = Refused NoFamily
-after_header (header.Found b) next = next b
+after_header (Err header.NotBlock) next = Err NotBlock
+after_header (Err header.Container) next = Err Container
+after_header (Err header.NoFamily) next = Err NoFamily
+after_header (Ok b) next = next b
 
 -- x is the answer to a header, whatever comes after it
 abbrev pub HeaderAnswer : Header → Answer → Type 0
-HeaderAnswer h x = (next : Block → Screening) → Refused x ≡ after_header h next
+HeaderAnswer h x = (next : Block → Screening) → Err x ≡ after_header h next
 
 -- rows 4 to 11, for lent buffers of lengths n, a transfer t, and what the settings say of the arrival's family
 unfoldable pub screen_in : Rooms → Lengths → State → List ℕ → Screening
@@ -170,9 +172,9 @@ screen_of s n t a = screen_in (rooms_of s n.flash (field_at a 28)) n t a
 -- ---- where the rooms are handed in, and may be any
 
 -- a place that begins at 2 ^ 44 or above is none: no entry can name it, and below it every storage address fits 64 bits
-abbrev pub low_place : Place → Place
-low_place Nowhere = Nowhere
-low_place (At start size) = cond (leb 0x100000000000 start) Nowhere (At start size)
+abbrev pub low_place : Option Place → Option Place
+low_place None = None
+low_place (Some p) = cond (leb 0x100000000000 p.start) None (Some p)
 
 -- of rooms
 abbrev pub low_rooms : Rooms → Rooms
@@ -184,5 +186,5 @@ screen_at r n t a = screen_in (low_rooms r) n t a
 
 -- the number of a refusal; a block that passes is none, and has 0
 abbrev pub screening_number : Screening → ℕ
-screening_number (Refused x) = number_of x
-screening_number (Passed p) = 0
+screening_number (Err x) = number_of x
+screening_number (Ok p) = 0

@@ -2,7 +2,7 @@
 ghost use Rattle.std.specs.Prelude.{◌≡◌};
 ghost use Rattle.uf2_checks.specs.Screen.{base_of, is_lent, in_window, window_of, window_kind, own_kind, note_kind};
 
-use crate::{Lengths, Window};
+use crate::Lengths;
 use transfer::{Head, Kind, State, Transfer};
 use uf2_block::Block;
 
@@ -37,30 +37,27 @@ fn in_window(lens: Lengths, kind: Kind, address: usize) -> bool
     here & (from <= address) & (address < from + len)
 }
 
-// The window that an address lies in.
-pub fn window_of(lens: Lengths, address: usize) -> Window
+// The window that an address lies in, by its kind.
+pub fn window_of(lens: Lengths, address: usize) -> Option<Kind>
     ensures { result ≡ window_of lens address }
 {
     if in_window(lens, Kind::Flash, address) {
-        return Window::In(Kind::Flash);
+        return Some(Kind::Flash);
     }
     if in_window(lens, Kind::MainRam, address) {
-        return Window::In(Kind::MainRam);
+        return Some(Kind::MainRam);
     }
     if in_window(lens, Kind::XipRam, address) {
-        return Window::In(Kind::XipRam);
+        return Some(Kind::XipRam);
     }
-    Window::Outside
+    None
 }
 
 // The kind of a data block, and of one in no window.
-pub fn window_kind(window: Window) -> Kind
+pub fn window_kind(window: Option<Kind>) -> Kind
     ensures { result ≡ window_kind window }
 {
-    match window {
-        Window::Outside => Kind::Flash,
-        Window::In(kind) => kind,
-    }
+    window.unwrap_or(Kind::Flash)
 }
 
 // The kind of a comment while a transfer runs: the transfer's, where the comment is its own and the kind has a buffer.
@@ -76,13 +73,13 @@ fn own_kind(lens: Lengths, head: Head, family: u32, total: u32) -> Kind
 }
 
 // The kind of a comment.
+#[tactic(auto, unfolding(crate::specs::Screen::note_kind))]
 pub fn note_kind(lens: Lengths, transfer: Transfer, b: Block) -> Kind
     ensures { result ≡ note_kind lens transfer.state b }
 {
     let state = transfer.state;
     match state {
-        State::Idle => Kind::Flash,
         State::Running(run) => own_kind(lens, run.head, b.family, b.total),
-        State::Done(_) => Kind::Flash,
+        State::Idle | State::Done(_) => Kind::Flash,
     }
 }

@@ -3,7 +3,7 @@ ghost use Rattle.std.specs.Prelude.{◌≡◌};
 ghost use Rattle.placement.specs.Place.{StartsLow};
 ghost use Rattle.uf2_checks.specs.Screen.{rooms_of, low_place, low_rooms, room_in};
 
-use crate::{Rooms, Window};
+use crate::{Lengths, Rooms};
 use partitions::Settings;
 use placement::Place;
 use transfer::Kind;
@@ -22,30 +22,25 @@ pub fn rooms_for(settings: Settings, flash_len: usize, family: u32) -> Rooms
 }
 
 // A place that is handed in may begin anywhere.
-fn low_place(place: Place) -> Place
+fn low_place(place: Option<Place>) -> Option<Place>
     ensures value { result ≡ low_place place }
     ensures low { StartsLow result }
 {
     match place {
-        Place::Nowhere => Place::Nowhere,
-        Place::At { start, len } => {
-            if STARTS <= start {
-                return Place::Nowhere;
-            }
-            Place::At { start, len }
-        }
+        Some(p) if STARTS <= p.start => None,
+        _ => place,
     }
 }
 
 // The place of a block of each kind.
-pub fn room_in(rooms: Rooms, kind: Kind) -> Place
+pub fn room_in(rooms: Rooms, kind: Kind) -> Option<Place>
     ensures value { result ≡ room_in (low_rooms rooms) kind }
     ensures low { StartsLow result }
 {
     let flash = rooms.flash;
     match kind {
         Kind::Flash => low_place(flash),
-        Kind::MainRam => placement::whole_if(rooms.ram, Window::MAIN_RAM),
-        Kind::XipRam => placement::whole_if(rooms.ram, Window::XIP_RAM),
+        Kind::MainRam => placement::whole_if(rooms.ram, Lengths::MAIN_RAM),
+        Kind::XipRam => placement::whole_if(rooms.ram, Lengths::XIP_RAM),
     }
 }

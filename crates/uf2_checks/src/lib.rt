@@ -12,7 +12,7 @@ ghost use Rattle.uf2_checks.specs.Screen.{extent_of};
 
 use memory::flash::Flash;
 use placement::Place;
-use transfer::{Answer, Head, Kind};
+use transfer::{Head, Kind};
 
 // The lengths of the lent flash, main RAM and XIP RAM.
 #[derive(Clone, Copy)]
@@ -25,18 +25,19 @@ pub struct Lengths {
 // What the settings say of a family: its place in the flash, and whether it may go to RAM.
 #[derive(Clone, Copy)]
 pub struct Rooms {
-    pub flash: Place,
+    pub flash: Option<Place>,
     pub ram: bool,
 }
 
-// The window that an address lies in.
-#[derive(Clone, Copy)]
-pub enum Window {
-    Outside,
-    In(Kind),
+impl Lengths {
+    // The bytes of main RAM and of XIP RAM.
+    pub const MAIN_RAM: usize = 532480;
+
+    pub const XIP_RAM: usize = 16384;
 }
 
 // What a block holds: a page, with its storage address, or a comment, which has none.
+// Kept, no plainer: a comment is no page that is missing, as None would say.
 #[derive(Clone, Copy)]
 pub enum Body {
     Page(usize),
@@ -51,26 +52,13 @@ pub struct PlacedBlock {
     pub body: Body,
 }
 
-#[derive(Clone, Copy)]
-pub enum Screening {
-    Refused(Answer),
-    Passed(PlacedBlock),
-}
-
-impl Window {
-    // The bytes of main RAM and of XIP RAM.
-    pub const MAIN_RAM: usize = 532480;
-
-    pub const XIP_RAM: usize = 16384;
-}
-
 // The bytes of a window.
 pub fn extent(kind: Kind) -> usize
     ensures { result ≡ extent_of kind }
 {
     match kind {
         Kind::Flash => Flash::MAX,
-        Kind::MainRam => Window::MAIN_RAM,
-        Kind::XipRam => Window::XIP_RAM,
+        Kind::MainRam => Lengths::MAIN_RAM,
+        Kind::XipRam => Lengths::XIP_RAM,
     }
 }

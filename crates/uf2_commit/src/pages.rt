@@ -44,7 +44,6 @@ pub fn write(
 {
     match deed {
         Deed::Stores => page(kind, at, arrival, sectors, main, xip),
-        Deed::Notes => Plan::Nothing,
-        Deed::Keeps => Plan::Nothing,
+        Deed::Notes | Deed::Keeps => Plan::Nothing,
     }
 }

@@ -3,16 +3,15 @@ use mathlib.Core.Path.{◌≡◌}
 use mathlib.Core.Bool.{Bool, true, false}
 use mathlib.Core.List.{List}
 use Prim.Native.Nat.{ℕ}
+use Rattle.std.specs.Prelude.{Ok, Err}
 use Rattle.transfer.specs.Transfer.{good_state}
 use Rattle.transfer.specs.declared.State.{State}
 use Rattle.transfer.specs.declared.Transfer.{Transfer}
 use Rattle.transfer.specs.declared.Answer.{Answer}
 use Rattle.transfer.specs.declared.Answer.TheVariants.{BadBuffers, BadSettings, BadState}
-use Rattle.uf2_checks.specs.Screen.{screen_at}
+use Rattle.uf2_checks.specs.Screen.{screen_at, Screening}
 use Rattle.uf2_checks.specs.declared.Lengths.{Lengths}
 use Rattle.uf2_checks.specs.declared.PlacedBlock.{PlacedBlock}
-use Rattle.uf2_checks.specs.declared.Screening.{Screening}
-use Rattle.uf2_checks.specs.declared.Screening.TheVariants.{Refused, Passed}
 use Rattle.arrival.specs.Arrive.{Lent, Decision, lengths_of, stands_at, after_screening, stays}
 use Rattle.arrival.specs.Lending.{world}
 use Rattle.uf2_known.specs.Verdict.{known_decision}
@@ -21,11 +20,11 @@ use Rattle.uf2_known.specs.declared.Known.{Known}
 -- ---- rows 4 to 17
 
 module _ (t : State) (seen : List ℕ) (kept : Bool) {c : Screening} where
-  pub screened_refused : {x : Answer} → c ≡ Refused x → stays x ≡ after_screening t seen kept c
+  pub screened_refused : {x : Answer} → c ≡ Err x → stays x ≡ after_screening t seen kept c
   unfolding after_screening
   screened_refused q = rw q
 
-  pub screened_passed : {p : PlacedBlock} → c ≡ Passed p → {d : Decision} → d ≡ after_screening t seen kept (Passed p) → d ≡ after_screening t seen kept c
+  pub screened_passed : {p : PlacedBlock} → c ≡ Ok p → {d : Decision} → d ≡ after_screening t seen kept (Ok p) → d ≡ after_screening t seen kept c
   screened_passed q y = rw q y
 
 -- ---- every row

@@ -1,6 +1,7 @@
 // What a block does once it is accepted: a page is stored or kept, a comment is noted. Nothing is written.
-ghost use Rattle.std.specs.Prelude.{◌≡◌, ◌&&◌};
+ghost use Rattle.std.specs.Prelude.{◌≡◌, ◌&&◌, Some};
 ghost use Rattle.transfer.specs.Transfer.{same_kind};
+ghost use Rattle.placement.specs.Place.{place_from};
 ghost use Rattle.arrival.specs.Arrive.{stands_at, deed_of};
 ghost use Rattle.uf2_decide.specs.Deeds.{page_deed};
 
@@ -10,7 +11,7 @@ use uf2_checks::{Body, PlacedBlock};
 
 // Does the region of an arrival, if it names one, count in a place of the flash, and have its digest there?
 fn stands_in(start: usize, size: usize, flash: &[u8], arrival: &[u8]) -> bool
-    ensures { result ≡ stands_at flash.now (Place.At start size) arrival.now }
+    ensures { result ≡ stands_at flash.now (Some (place_from start size)) arrival.now }
 {
     if !uf2_block::has_region(arrival) {
         return false;
@@ -23,20 +24,20 @@ fn stands_in(start: usize, size: usize, flash: &[u8], arrival: &[u8]) -> bool
     uf2_block::regions::stands(flash, start, region)
 }
 
-fn stands_at(place: Place, flash: &[u8], arrival: &[u8]) -> bool
+fn stands_at(place: Option<Place>, flash: &[u8], arrival: &[u8]) -> bool
     ensures { result ≡ stands_at flash.now place arrival.now }
 {
     match place {
-        Place::Nowhere => false,
-        Place::At { start, len } => stands_in(start, len, flash, arrival),
+        None => false,
+        Some(p) => stands_in(p.start, p.len, flash, arrival),
     }
 }
 
 // A page is stored; in flash it is kept where it stands. The flash is read only there.
-fn page_deed(kind: Kind, place: Place, flash: &[u8], arrival: &[u8]) -> Deed
+fn page_deed(kind: Kind, place: Option<Place>, flash: &[u8], arrival: &[u8]) -> Deed
     ensures { result ≡ page_deed (same_kind kind Kind.Flash && stands_at flash.now place arrival.now) }
 {
-    if !transfer::same_kind(kind, Kind::Flash) {
+    if kind != Kind::Flash {
         return Deed::Stores;
     }
     if stands_at(place, flash, arrival) {
@@ -46,7 +47,7 @@ fn page_deed(kind: Kind, place: Place, flash: &[u8], arrival: &[u8]) -> Deed
 }
 
 // What a block does once it is accepted, where `place` is its family's.
-pub fn deed_of(placed: PlacedBlock, place: Place, flash: &[u8], arrival: &[u8]) -> Deed
+pub fn deed_of(placed: PlacedBlock, place: Option<Place>, flash: &[u8], arrival: &[u8]) -> Deed
     ensures { result ≡ deed_of (stands_at flash.now place arrival.now) placed }
 {
     let named = placed.head;

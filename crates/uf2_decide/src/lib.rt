@@ -12,8 +12,8 @@ ghost use Rattle.arrival.specs.Lending.{lent_at, world};
 ghost use Rattle.uf2_known.specs.Verdict.{decision, decision_number, known_decision};
 
 use transfer::{Answer, Transfer};
-use uf2_checks::{Lengths, Rooms, Screening};
-use uf2_known::{Known, Verdict};
+use uf2_checks::{Lengths, Rooms};
+use uf2_known::{Acceptance, Known};
 
 // Rows 4 to 17.
 fn screened(
@@ -23,17 +23,12 @@ fn screened(
     arrival: &[u8],
     flash: &[u8],
     seen: &[u8],
-) -> Verdict
+) -> Result<Acceptance, Answer>
     ensures { decision result ≡ after_screening transfer.state seen.now (stands_at flash.now rooms.flash arrival.now) (screen_at rooms lens transfer.state arrival.now) }
 {
     let place = rooms.flash;
-    let screening = uf2_checks::block_checks::screen(rooms, lens, transfer, arrival);
-    match screening {
-        Screening::Refused(answer) => Verdict::Leaves(answer),
-        Screening::Passed(placed) => crate::settling::settle(
-            transfer, placed, place, arrival, flash, seen,
-        ),
-    }
+    let placed = uf2_checks::block_checks::screen(rooms, lens, transfer, arrival)?;
+    crate::settling::settle(transfer, placed, place, arrival, flash, seen)
 }
 
 // Every check, in its order. What the settings and the lengths say is handed in.
@@ -46,17 +41,17 @@ pub fn judge(
     sectors: &[u8],
     main: &[u8],
     xip: &[u8],
-) -> Verdict
+) -> Result<Acceptance, Answer>
     ensures { numbered decision_number (decision result) ≡ numbered decision_number (known_decision known (world transfer (lent_at flash.now seen.now sectors.now main.now xip.now)) arrival.now) }
 {
     if !known.right {
-        return Verdict::Leaves(Answer::BadBuffers);
+        return Err(Answer::BadBuffers);
     }
     if !known.good {
-        return Verdict::Leaves(Answer::BadSettings);
+        return Err(Answer::BadSettings);
     }
     if !transfer.sound() {
-        return Verdict::Leaves(Answer::BadState);
+        return Err(Answer::BadState);
     }
     let lens = Lengths {
         flash: flash.len(),

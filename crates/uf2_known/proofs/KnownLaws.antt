@@ -3,6 +3,7 @@ use mathlib.Core.Path.{◌≡◌, ap, ◌∙◌}
 use mathlib.Core.List.{List}
 use Prim.Native.Nat.{ℕ}
 use lib.ListN.{length}
+use Rattle.std.specs.Prelude.{Option}
 use Rattle.uf2_block.specs.Block.{field_at}
 use Rattle.partitions.specs.declared.Settings.{Settings}
 use Rattle.placement.specs.Place.{StartsLow, place_of}
@@ -20,7 +21,7 @@ use Rattle.uf2_known.specs.Verdict.{known_of, known_decision}
 screen_known : (s : Settings) (n : Lengths) (t : State) (a : List ℕ) {r : Rooms} → r ≡ rooms_of s n.flash (field_at a 28) → StartsLow r.flash → screen_at r n t a ≡ screen_of s n t a
 unfolding screen_at screen_of
 screen_known s n t a {r} e l =
-    ap (λ (p : Place). screen_in (record { flash = p; ram = r.ram }) n t a) (low_kept r.flash l)
+    ap (λ (p : Option Place). screen_in (record { flash = p; ram = r.ram }) n t a) (low_kept r.flash l)
     ∙ ap (λ (q : Rooms). screen_in q n t a) e
 
 -- k is what the settings and the lengths say of the arrival a, for the buffers that w has

@@ -1,23 +1,23 @@
 -- What an arrival comes to, where what the settings and the lengths say of it is handed in. Assumes nothing.
-use Rattle.std.specs.Prelude.{ℕ, Bool, not, cond, List, length}
+use Rattle.std.specs.Prelude.{ℕ, Bool, not, cond, List, length, Result, Ok, Err}
 use Rattle.uf2_block.specs.Block.{field_at}
 use Rattle.partitions.specs.Settings.{good_settings}
 use Rattle.partitions.specs.declared.Settings.{Settings}
 use Rattle.uf2_checks.specs.Screen.{rooms_of, screen_at}
 use Rattle.uf2_checks.specs.declared.Lengths.{Lengths}
 use Rattle.uf2_checks.specs.declared.PlacedBlock.{PlacedBlock}
+use Rattle.transfer.specs.declared.Answer.{Answer}
 use Rattle.transfer.specs.Transfer.{number_of, good_state, with_deed}
 use Rattle.transfer.specs.declared.Accepted.{Accepted}
 use Rattle.transfer.specs.declared.Answer.TheVariants.{BadBuffers, BadSettings, BadState}
 use Rattle.arrival.specs.Arrive.{World, Decision, stays, accepts, lengths_of, right_lengths, stands_at, deed_of, after_screening}
+use Rattle.uf2_known.specs.declared.Acceptance.{Acceptance}
 use Rattle.uf2_known.specs.declared.Known.{Known}
-use Rattle.uf2_known.specs.declared.Verdict.{Verdict}
-use Rattle.uf2_known.specs.declared.Verdict.TheVariants.{Leaves, Accepts}
 
 -- what an arrival comes to, before anything is written
-abbrev pub decision : Verdict → Decision
-decision (Leaves x) = stays x
-decision (Accepts k) = accepts k.placed k.deed k.accepted
+abbrev pub decision : Result Acceptance Answer → Decision
+decision (Err x) = stays x
+decision (Ok k) = accepts k.placed k.deed k.accepted
 
 -- the number of its answer
 abbrev pub decision_number : Decision → ℕ

@@ -38,12 +38,15 @@ pub fn judge(settings: Settings, lens: Lengths, m: usize, k: usize, family: u32)
 
 // The same place, made anew: what is kept from arrival to arrival is then its fields alone, and not the unused bytes between them, which
 // would be copied at each.
-fn same_place(place: Place) -> Place
+fn same_place(place: Option<Place>) -> Option<Place>
     ensures { result ≡ place }
 {
     match place {
-        Place::Nowhere => Place::Nowhere,
-        Place::At { start, len } => Place::At { start, len },
+        None => None,
+        Some(p) => Some(Place {
+            start: p.start,
+            len: p.len,
+        }),
     }
 }
 

@@ -9,9 +9,9 @@ ghost use Rattle.arrival.specs.Arrive.{right_lengths};
 ghost use Rattle.uf2_known.specs.Verdict.{known_of};
 
 use partitions::Settings;
-use transfer::{Accepted, Answer, Deed};
+use transfer::{Accepted, Deed};
 use uf2_block::Block;
-use uf2_checks::{Lengths, PlacedBlock, Rooms, Window};
+use uf2_checks::{Lengths, PlacedBlock, Rooms};
 
 // A block that is accepted: its number and what it holds, what is done with that, and what the block does to the transfer.
 #[derive(Clone, Copy)]
@@ -19,13 +19,6 @@ pub struct Acceptance {
     pub placed: PlacedBlock,
     pub deed: Deed,
     pub accepted: Accepted,
-}
-
-// What an arrival comes to, before anything is written.
-#[derive(Clone, Copy)]
-pub enum Verdict {
-    Leaves(Answer),
-    Accepts(Acceptance),
 }
 
 // What is known of an arrival before it is judged: row 1's word, row 2's word, and what the settings say of its family.
@@ -51,8 +44,8 @@ pub fn lengths_right(a: usize, lens: Lengths, m: usize, k: usize) -> bool
         & memory::flash::right_length(lens.flash)
         & (m == Known::SEEN)
         & (k == Known::SECTORS)
-        & ((lens.main == 0) | (lens.main == Window::MAIN_RAM))
-        & ((lens.xip == 0) | (lens.xip == Window::XIP_RAM))
+        & ((lens.main == 0) | (lens.main == Lengths::MAIN_RAM))
+        & ((lens.xip == 0) | (lens.xip == Lengths::XIP_RAM))
 }
 
 // What the settings and the lengths say of an arrival.

@@ -9,8 +9,8 @@ use Rattle.laws.specs.Over.{over}
 use Rattle.laws.specs.Rows.{rows}
 use Rattle.laws.proofs.OverLaws.{length_over, put_over}
 use Rattle.laws.proofs.RowsLaws.{rows_none, length_rows, part_rows, rows_over}
-use Rattle.uf2_make.specs.declared.checks.MakeAnswer.{MakeAnswer}
-use Rattle.uf2_make.specs.declared.checks.MakeAnswer.TheVariants.{BadImage, BadStart, PastWindow, ShortOutput, Made}
+use Rattle.std.specs.Prelude.{Ok, Err}
+use Rattle.uf2_make.specs.declared.checks.MakeError.{MakeError}
 use Rattle.uf2_make.specs.Uf2check.{check_of}
 use Rattle.uf2_make.specs.Uf2file.{page_of, block_at, file_bytes, make_call, make_of}
 use Rattle.uf2_make.specs.Uf2block.{block_bytes, block_over}
@@ -38,20 +38,13 @@ module _ (image : List ℕ) (family start n : ℕ) (whole : length image ≡ 256
   pub part_file : (k : ℕ) → k < n → take 512 (drop (512 * k) (file_bytes image family start)) ≡ block_at image family start k
   part_file k l = rw file_rows (part_rows 512 n (block_at image family start) wide n k (omega arith) l)
 
-  pub blocks_long : (out₀ out : List ℕ) (k : ℕ) → 512 * n ≤ length out₀ → k ≤ n → out ≡ over out₀ 0 (rows (block_at image family start) k) → length out ≡ length out₀
-  blocks_long out₀ out k room l s =
-      let f = block_at image family start in
-      let fits : 0 + length (rows f k) ≤ length out₀ = omega (arith, length_rows 512 n f wide k l) in
-      ap length s ∙ length_over out₀ 0 (rows f k) fits
-
   -- one block more, which a callee left in the part that it was lent; its address and its page as the code has them
   pub blocks_more : (out₀ out ys : List ℕ) (k a : ℕ) → 512 * n ≤ length out₀ → k < n → a ≡ start + 256 * k
-      → out ≡ over out₀ 0 (rows (block_at image family start) k)
+      → length out ≡ length out₀ → out ≡ over out₀ 0 (rows (block_at image family start) k)
       → ys ≡ block_over (take (512 * k + 512 - 512 * k) (drop (512 * k) out)) a k n family (take (256 * k + 256 - 256 * k) (drop (256 * k) image))
       → put_mid (512 * k) (512 * k + 512 - 512 * k) out ys ≡ over out₀ 0 (rows (block_at image family start) (k + 1))
-  blocks_more out₀ out ys k a room l ha s hy =
+  blocks_more out₀ out ys k a room l ha same s hy =
       let f = block_at image family start in
-      let same : length out ≡ length out₀ = blocks_long out₀ out k room (omega arith) s in
       let part = take (512 * k + 512 - 512 * k) (drop (512 * k) out) in
       let page = take (256 * k + 256 - 256 * k) (drop (256 * k) image) in
       let p : length part ≡ 512 = simp (length-take, length-drop) (omega (arith, same)) in
@@ -72,17 +65,11 @@ blocks_none image family start out = rw (rows_none (block_at image family start)
 -- ---- the call
 
 module _ (image : List ℕ) (family start : ℕ) (out : List ℕ) where
-  -- none but a refusal
-  pub make_refused : (x : MakeAnswer) → ((m : ℕ) → x ≡ Made m → ⊥) → x ≡ check_of (length image) start (length out)
-      → make_call x out ≡ make_of image family start out
+  pub make_refused : {x : MakeError} → Err x ≡ check_of (length image) start (length out) → make_call (Err x) out ≡ make_of image family start out
   unfolding make_of
-  make_refused BadImage h e = rw (← e)
-  make_refused BadStart h e = rw (← e)
-  make_refused PastWindow h e = rw (← e)
-  make_refused ShortOutput h e = rw (← e)
-  make_refused (Made n) h e = absurd (h n refl)
+  make_refused e = rw (← e)
 
-  pub make_made : (x : MakeAnswer) (n : ℕ) {b : List ℕ} → x ≡ check_of (length image) start (length out) → x ≡ Made n → b ≡ over out 0 (file_bytes image family start)
-      → make_call (Made n) b ≡ make_of image family start out
+  pub make_made : (n : ℕ) {b : List ℕ} → Ok n ≡ check_of (length image) start (length out) → b ≡ over out 0 (file_bytes image family start)
+      → make_call (Ok n) b ≡ make_of image family start out
   unfolding make_of
-  make_made x n {b} e h k = rw (← e, h, k)
+  make_made n {b} e k = rw (← e, k)

@@ -13,7 +13,7 @@ use Rattle.laws.specs.Over.{over}
 use Rattle.uf2_block.specs.Block.{field_at, is_block}
 use Rattle.uf2_block.specs.Write.{le32}
 use Rattle.uf2_block.proofs.WriteLaws.{field_le32}
-use Rattle.uf2_make.specs.declared.checks.MakeAnswer.TheVariants.{Made}
+use Rattle.std.specs.Prelude.{Ok}
 use Rattle.uf2_make.specs.Uf2file.{page_of, file_bytes, make_of}
 use Rattle.uf2_make.specs.Claims.{Reads, BlocksReadBack, RestStays}
 use Rattle.uf2_make.proofs.checks.Checks.{Right, made_right}
@@ -97,7 +97,7 @@ over_first : (d s : List ℕ) → over d 0 s ≡ s ++ drop (length s) d
 unfolding over
 over_first d s = let e : 0 + length s ≡ length s = omega arith in rw e
 
-module _ (image out : List ℕ) (family start n : ℕ) (made : (make_of image family start out).answer ≡ Made n) where
+module _ (image out : List ℕ) (family start n : ℕ) (made : (make_of image family start out).answer ≡ Ok n) where
   right : Right (length image) start (length out) n
   unfolding make_of
   right = made_right (length image) start (length out) n made

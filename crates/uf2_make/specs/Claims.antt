@@ -1,8 +1,7 @@
 -- "Reading each block gives back its fields" (02, L1). Assumes nothing.
-use Rattle.std.specs.Prelude.{ℕ, ◌+◌, ◌*◌, ◌<◌, ◌^◌, true, ◌≡◌, List, ◌++◌, length, take, drop}
+use Rattle.std.specs.Prelude.{ℕ, ◌+◌, ◌*◌, ◌<◌, ◌^◌, true, ◌≡◌, List, ◌++◌, length, take, drop, Ok}
 use Rattle.memory.specs.Many.{many}
 use Rattle.uf2_block.specs.Block.{field_at, is_block}
-use Rattle.uf2_make.specs.declared.checks.MakeAnswer.TheVariants.{Made}
 use Rattle.uf2_make.specs.Uf2file.{page_of, make_of}
 
 -- 512 bytes that are read as a block with these fields, "flag 0x2000 only", and with the page and then zeros as data
@@ -20,11 +19,11 @@ pub record Reads (b : List ℕ) (address number total family : ℕ) (page : List
 -- of every file that is made, each block, in number order
 abbrev pub BlocksReadBack : Type 0
 BlocksReadBack =
-    (image out : List ℕ) (family start n : ℕ) → family < 2 ^ 32 → (make_of image family start out).answer ≡ Made n
+    (image out : List ℕ) (family start n : ℕ) → family < 2 ^ 32 → (make_of image family start out).answer ≡ Ok n
     → (k : ℕ) → k < n → Reads (take 512 (drop (512 * k) (make_of image family start out).output)) (start + 256 * k) k n family (page_of image k)
 
 -- "output past the last block stays"
 abbrev pub RestStays : Type 0
 RestStays =
-    (image out : List ℕ) (family start n : ℕ) → (make_of image family start out).answer ≡ Made n
+    (image out : List ℕ) (family start n : ℕ) → (make_of image family start out).answer ≡ Ok n
     → drop (512 * n) (make_of image family start out).output ≡ drop (512 * n) out

@@ -1,10 +1,9 @@
 -- A UF2 file that is made of an image (02, L1). Assumes nothing.
-use Rattle.std.specs.Prelude.{ℕ, ◌+◌, ◌*◌, ◌/◌, List, length, take, drop}
+use Rattle.std.specs.Prelude.{ℕ, ◌+◌, ◌*◌, ◌/◌, List, length, take, drop, Result, Ok, Err}
 use Rattle.laws.specs.Over.{over}
 use Rattle.laws.specs.Rows.{rows}
 use Rattle.uf2_make.specs.Uf2block.{block_bytes}
-use Rattle.uf2_make.specs.declared.checks.MakeAnswer.{MakeAnswer}
-use Rattle.uf2_make.specs.declared.checks.MakeAnswer.TheVariants.{BadImage, BadStart, PastWindow, ShortOutput, Made}
+use Rattle.uf2_make.specs.declared.checks.MakeError.{MakeError}
 use Rattle.uf2_make.specs.Uf2check.{check_of, make_number}
 
 -- ---- the file
@@ -25,11 +24,11 @@ file_bytes image family start = rows (block_at image family start) (length image
 
 -- what is answered, and what the output holds
 pub record MakeCall : Type 0 where
-  pub answer : MakeAnswer
+  pub answer : Result ℕ MakeError
   pub output : List ℕ
 
 -- both as one value, which the contract names
-abbrev pub make_call : MakeAnswer → List ℕ → MakeCall
+abbrev pub make_call : Result ℕ MakeError → List ℕ → MakeCall
 make_call x l = record { answer = x; output = l }
 
 -- the number of its answer
@@ -37,12 +36,9 @@ abbrev pub call_number : MakeCall → ℕ
 call_number c = make_number c.answer
 
 -- "A refusal writes nothing; output past the last block stays."
-abbrev pub output_of : MakeAnswer → List ℕ → List ℕ → List ℕ
-output_of BadImage file out = out
-output_of BadStart file out = out
-output_of PastWindow file out = out
-output_of ShortOutput file out = out
-output_of (Made n) file out = over out 0 file
+abbrev pub output_of : Result ℕ MakeError → List ℕ → List ℕ → List ℕ
+output_of (Err e) file out = out
+output_of (Ok n) file out = over out 0 file
 
 unfoldable pub make_of : List ℕ → ℕ → ℕ → List ℕ → MakeCall
 make_of image family start out =

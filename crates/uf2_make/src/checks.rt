@@ -1,39 +1,38 @@
-// An image of whole pages that a UF2 file is to be made of: the checks, and the answer.
+// An image of whole pages that a UF2 file is to be made of: the checks, and the refusals.
 ghost use Rattle.std.specs.Prelude.{◌≡◌};
 ghost use Rattle.laws.specs.Numbered.{numbered};
-ghost use Rattle.uf2_make.specs.Uf2check.{bad_image, bad_start, check_of, make_number};
+ghost use Rattle.uf2_make.specs.Uf2check.{bad_image, bad_start, check_of, error_number, make_number};
 
+use crate::PAGE;
 use uf2_block::Block;
 
-const PAGE: usize = 256;
-
-// The window of addresses: its first, and the one after its last.
-const WINDOW: usize = 0x10000000;
-
+// The address after the last of the window.
 const WINDOW_END: usize = 0x12000000;
 
-// What comes of an image: a refusal, or a file of so many blocks.
-#[derive(Clone, Copy)]
-pub enum MakeAnswer {
-    BadImage,
-    BadStart,
-    PastWindow,
-    ShortOutput,
-    Made(u32),
+// Why no file is made of an image, by the number of the refusal.
+#[derive(Clone, Copy, PartialEq, Eq)]
+pub enum MakeError {
+    BadImage = 50,
+    BadStart = 51,
+    PastWindow = 52,
+    ShortOutput = 53,
 }
 
-impl MakeAnswer {
-    // The number of a refusal, and 0 for a file that is made.
+impl MakeError {
     pub fn number(self) -> u8
-        ensures { result ≡ make_number self }
+        ensures { result ≡ error_number self }
     {
-        match self {
-            MakeAnswer::BadImage => 50,
-            MakeAnswer::BadStart => 51,
-            MakeAnswer::PastWindow => 52,
-            MakeAnswer::ShortOutput => 53,
-            MakeAnswer::Made(_) => 0,
-        }
+        self as u8
+    }
+}
+
+// The number of a refusal, and 0 for a file that is made.
+pub fn number(made: Result<u32, MakeError>) -> u8
+    ensures { result ≡ make_number made }
+{
+    match made {
+        Ok(_) => 0,
+        Err(error) => error.number(),
     }
 }
 
@@ -46,28 +45,27 @@ fn bad_image(len: usize) -> bool
 fn bad_start(start: usize) -> bool
     ensures { result ≡ bad_start start }
 {
-    (start < WINDOW) | ((WINDOW_END <= start) | (start % PAGE != 0))
+    (start < Block::WINDOW) | ((WINDOW_END <= start) | (start % PAGE != 0))
 }
 
 // What would come of an image of so many bytes. The start's distance from the window's end is compared, since the sum of start and length
 // need not fit.
-pub fn check(image_len: usize, start: u32, output_len: usize) -> MakeAnswer
+pub fn check(image_len: usize, start: u32, output_len: usize) -> Result<u32, MakeError>
     ensures { numbered make_number result ≡ numbered make_number (check_of image_len start output_len) }
 {
     let first = start as usize;
     if bad_image(image_len) {
-        return MakeAnswer::BadImage;
+        return Err(MakeError::BadImage);
     }
     if bad_start(first) {
-        return MakeAnswer::BadStart;
+        return Err(MakeError::BadStart);
     }
     if WINDOW_END - first < image_len {
-        return MakeAnswer::PastWindow;
+        return Err(MakeError::PastWindow);
     }
     let pages = image_len / PAGE;
     if output_len < Block::ARRIVAL * pages {
-        return MakeAnswer::ShortOutput;
+        return Err(MakeError::ShortOutput);
     }
-    let count = pages as u32;
-    MakeAnswer::Made(count)
+    Ok(pages as u32)
 }

@@ -10,8 +10,8 @@ use Rattle.laws.specs.Rows.{rows}
 use Rattle.laws.proofs.OverLaws.{length_over, put_over}
 use Rattle.laws.proofs.RowsLaws.{rows_none, length_rows, part_rows, rows_over}
 use Rattle.md5_digest.specs.declared.Digest.{Digest}
-use Rattle.uf2_make.specs.declared.checks.MakeAnswer.{MakeAnswer}
-use Rattle.uf2_make.specs.declared.checks.MakeAnswer.TheVariants.{BadImage, BadStart, PastWindow, ShortOutput, Made}
+use Rattle.std.specs.Prelude.{Ok, Err}
+use Rattle.uf2_make.specs.declared.checks.MakeError.{MakeError}
 use Rattle.uf2_make.specs.Uf2check.{check_of}
 use Rattle.uf2_make.specs.Uf2file.{page_of, make_call}
 use Rattle.uf2_make.proofs.Files.{length_page}
@@ -51,12 +51,6 @@ module _ (image : List ℕ) (family start n : ℕ) (whole : length image ≡ 256
   pub part_file : (k : ℕ) → k < n → take 512 (drop (512 * k) (file_bytes image family start)) ≡ block_at image family start k
   part_file k l = rw file_rows (part_rows 512 n (block_at image family start) wide n k (omega arith) l)
 
-  pub blocks_long : (out₀ out : List ℕ) (k : ℕ) → 512 * n ≤ length out₀ → k ≤ n → out ≡ over out₀ 0 (rows (block_at image family start) k) → length out ≡ length out₀
-  blocks_long out₀ out k room l s =
-      let f = block_at image family start in
-      let fits : 0 + length (rows f k) ≤ length out₀ = omega (arith, length_rows 512 n f wide k l) in
-      ap length s ∙ length_over out₀ 0 (rows f k) fits
-
   -- one block more, which a callee left in the part that it was lent
   pub blocks_more : (out₀ out ys : List ℕ) (k : ℕ) → 512 * n ≤ length out₀ → k < n
       → out ≡ over out₀ 0 (rows (block_at image family start) k) → ys ≡ block_at image family start k
@@ -75,17 +69,11 @@ blocks_none image family start out = rw (rows_none (block_at image family start)
 -- ---- the call
 
 module _ (image : List ℕ) (family start : ℕ) (out : List ℕ) where
-  -- none but a refusal
-  pub make_refused : (x : MakeAnswer) → ((m : ℕ) → x ≡ Made m → ⊥) → x ≡ check_of (length image) start (length out)
-      → make_call x out ≡ make_of image family start out
+  pub make_refused : {x : MakeError} → Err x ≡ check_of (length image) start (length out) → make_call (Err x) out ≡ make_of image family start out
   unfolding make_of
-  make_refused BadImage h e = rw (← e)
-  make_refused BadStart h e = rw (← e)
-  make_refused PastWindow h e = rw (← e)
-  make_refused ShortOutput h e = rw (← e)
-  make_refused (Made n) h e = absurd (h n refl)
+  make_refused e = rw (← e)
 
-  pub make_made : (x : MakeAnswer) (n : ℕ) {b : List ℕ} → x ≡ check_of (length image) start (length out) → x ≡ Made n → b ≡ over out 0 (file_bytes image family start)
-      → make_call (Made n) b ≡ make_of image family start out
+  pub make_made : (n : ℕ) {b : List ℕ} → Ok n ≡ check_of (length image) start (length out) → b ≡ over out 0 (file_bytes image family start)
+      → make_call (Ok n) b ≡ make_of image family start out
   unfolding make_of
-  make_made x n {b} e h k = rw (← e, h, k)
+  make_made n {b} e k = rw (← e, k)

@@ -17,7 +17,7 @@ use Rattle.uf2_block.proofs.WriteLaws.{field_le32}
 use Rattle.md5_digest.specs.Md5.{md5_of, digest_bytes}
 use Rattle.md5_digest.proofs.Laws.{Words, digest_words}
 use Rattle.md5_digest.specs.declared.Digest.{Digest}
-use Rattle.uf2_make.specs.declared.checks.MakeAnswer.TheVariants.{Made}
+use Rattle.std.specs.Prelude.{Ok}
 use Rattle.uf2_make.proofs.checks.Checks.{Right, made_right}
 use Rattle.uf2_make.specs.Uf2file.{page_of}
 use Rattle.uf2_make.proofs.Files.{length_page}
@@ -229,7 +229,7 @@ over_first : (d s : List ℕ) → over d 0 s ≡ s ++ drop (length s) d
 unfolding over
 over_first d s = let e : 0 + length s ≡ length s = omega arith in rw e
 
-module _ (image out : List ℕ) (family start n : ℕ) (made : (make_of image family start out).answer ≡ Made n) where
+module _ (image out : List ℕ) (family start n : ℕ) (made : (make_of image family start out).answer ≡ Ok n) where
   right : Right (length image) start (length out) n
   unfolding make_of
   right = made_right (length image) start (length out) n made

@@ -1,11 +1,10 @@
 -- What is read in each block of a file with a region for each sector (02, L1: "Reading each block gives back its fields"; L9: "the last 24 data
 -- bytes give region start (a window address), length and MD5"). Proved in proofs/. Assumes nothing.
-use Rattle.std.specs.Prelude.{ℕ, ◌+◌, ◌-◌, ◌*◌, ◌%◌, ◌<◌, ◌≤◌, ◌^◌, true, ◌≡◌, List, length, get_or, take, drop}
+use Rattle.std.specs.Prelude.{ℕ, ◌+◌, ◌-◌, ◌*◌, ◌%◌, ◌<◌, ◌≤◌, ◌^◌, true, ◌≡◌, List, length, get_or, take, drop, Ok}
 use Rattle.memory.specs.Many.{many}
 use Rattle.uf2_block.specs.Block.{field_at, is_block}
 use Rattle.md5_digest.specs.Md5.{md5_of, digest_bytes}
 use Rattle.md5_digest.specs.declared.Digest.{Digest}
-use Rattle.uf2_make.specs.declared.checks.MakeAnswer.TheVariants.{Made}
 use Rattle.uf2_make_regions.specs.File.{make_of}
 
 -- c is what a sector holds at the end, where it begins at `base` and an image begins at `start`: 4,096 bytes, the image's where it has one, else 0xFF
@@ -43,11 +42,11 @@ pub record Reads (image : List ℕ) (family start n k : ℕ) (b : List ℕ) : Ty
 -- of every file that is made, each block, in number order
 abbrev pub BlocksReadBack : Type 0
 BlocksReadBack =
-    (image out : List ℕ) (family start n : ℕ) → family < 2 ^ 32 → (make_of image family start out).answer ≡ Made n
+    (image out : List ℕ) (family start n : ℕ) → family < 2 ^ 32 → (make_of image family start out).answer ≡ Ok n
     → (k : ℕ) → k < n → Reads image family start n k (take 512 (drop (512 * k) (make_of image family start out).output))
 
 -- "output past the last block stays"
 abbrev pub RestStays : Type 0
 RestStays =
-    (image out : List ℕ) (family start n : ℕ) → (make_of image family start out).answer ≡ Made n
+    (image out : List ℕ) (family start n : ℕ) → (make_of image family start out).answer ≡ Ok n
     → drop (512 * n) (make_of image family start out).output ≡ drop (512 * n) out

@@ -11,11 +11,12 @@ ghost use Rattle.uf2_make.specs.Uf2file.{make_call, call_number};
 ghost use Rattle.uf2_make_regions.specs.File.{block_at, file_bytes, make_of};
 
 use uf2_block::Block;
-use uf2_make::checks::MakeAnswer;
-
-const PAGE: usize = 256;
+use uf2_make::PAGE;
+use uf2_make::checks::MakeError;
+use uf2_make::lead::Fields;
 
 // The block of page k, with the sector that it lies in as its region.
+// Kept, no plainer: image, family, start and total in a struct with these facts as ghost fields would be made in `make` alone, and read here.
 fn put_page(image: &[u8], family: u32, start: u32, total: u32, k: u32, out: &mut [u8])
     requires image_len { length image.now ≡ 256 * total }
     requires window { start + 256 * total ≤ 0x12000000 }
@@ -31,34 +32,37 @@ fn put_page(image: &[u8], family: u32, start: u32, total: u32, k: u32, out: &mut
     let i = k as usize;
     let a = PAGE * i;
     let e = a + PAGE;
-    named::put_block(out, address, k, total, family, &image[a..e], base, digest);
+    let fields = Fields {
+        address,
+        number: k,
+        total,
+        family,
+    };
+    named::put_block(out, fields, &image[a..e], base, digest);
 }
 
 // Writes a block for each page.
+// Kept, no plainer: uf2_make has the same loop over its own blocks; one for both takes a trait with a law of the blocks' length.
 fn write_blocks(image: &[u8], family: u32, start: u32, total: u32, output: &mut [u8])
     requires image_len { length image.now ≡ 256 * total }
     requires window { start + 256 * total ≤ 0x12000000 }
     requires room { 512 * total ≤ length output.old }
     ensures { output.new ≡ over output.old 0 (file_bytes image.now family start) }
 {
-    let mut k: u32 = 0;
-    while k < total {
+    for k in 0..total {
         let i = k as usize;
         let from = Block::ARRIVAL * i;
         let to = from + Block::ARRIVAL;
         put_page(image, family, start, total, k, &mut output[from..to]);
-        k += 1;
     }
 }
 
 // Makes the file at the start of the output.
-pub fn make(image: &[u8], family: u32, start: u32, output: &mut [u8]) -> MakeAnswer
+// Kept, no plainer: uf2_make has the same over its own `write_blocks`, for the reason given there.
+pub fn make(image: &[u8], family: u32, start: u32, output: &mut [u8]) -> Result<u32, MakeError>
     ensures { numbered call_number (make_call result output.new) ≡ numbered call_number (make_of image.now family start output.old) }
 {
-    let answer = uf2_make::checks::check(image.len(), start, output.len());
-    let MakeAnswer::Made(total) = answer else {
-        return answer;
-    };
+    let total = uf2_make::checks::check(image.len(), start, output.len())?;
     write_blocks(image, family, start, total, output);
-    answer
+    Ok(total)
 }

@@ -6,18 +6,7 @@ ghost use Rattle.md5_digest.specs.Md5.{md5_of};
 ghost use Rattle.uf2_make_regions.specs.File.{sector_digest};
 
 use md5_digest::Digest;
-
-const SECTOR: usize = 4096;
-
-// How far b lies past a; 0 where it does not.
-fn past(a: usize, b: usize) -> usize
-    ensures { result ≡ b - a }
-{
-    if a < b {
-        return b - a;
-    }
-    0
-}
+use memory::flash::Flash;
 
 // The image's bytes copied into a sector of 0xFF.
 fn placed(image: &[u8], at: usize, from: usize, count: usize) -> Digest
@@ -25,7 +14,7 @@ fn placed(image: &[u8], at: usize, from: usize, count: usize) -> Digest
     requires inside { from + count ≤ length image.now }
     ensures { result ≡ md5_of (over (many 4096 255) at (take count (drop from image.now))) }
 {
-    let mut sector = [255u8; SECTOR];
+    let mut sector = [255u8; Flash::SECTOR];
     let to = from + count;
     let end = at + count;
     sector[at..end].copy_from_slice(&image[from..to]);
@@ -38,12 +27,8 @@ pub(crate) fn digest(image: &[u8], start: usize, base: usize) -> Digest
     requires reaches { base ≤ start + length image.now }
     ensures { result ≡ sector_digest image.now start base }
 {
-    let at = past(base, start);
-    let from = past(start, base);
-    let room = SECTOR - at;
-    let left = image.len() - from;
-    if left < room {
-        return placed(image, at, from, left);
-    }
-    placed(image, at, from, room)
+    let at = start.saturating_sub(base);
+    let from = base.saturating_sub(start);
+    let room = Flash::SECTOR - at;
+    placed(image, at, from, room.min(image.len() - from))
 }

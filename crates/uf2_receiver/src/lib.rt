@@ -23,7 +23,7 @@ use partitions::Settings;
 use transfer::Transfer;
 use uf2_checks::Lengths;
 use uf2_commit::receipts::{PlanReceipt, Receipt};
-use uf2_known::{Known, Verdict};
+use uf2_known::Known;
 
 // One arrival accepted, where what the settings and the lengths say of it is handed in.
 pub fn accept_known(
@@ -40,8 +40,8 @@ pub fn accept_known(
 {
     let verdict = uf2_decide::judge(known, transfer, arrival, flash, seen, sectors, main, xip);
     match verdict {
-        Verdict::Leaves(answer) => uf2_commit::receipts::refuse(transfer, answer),
-        Verdict::Accepts(acceptance) => uf2_commit::receipts::enter(
+        Err(answer) => uf2_commit::receipts::refuse(transfer, answer),
+        Ok(acceptance) => uf2_commit::receipts::enter(
             acceptance, arrival, seen, sectors, main, xip,
         ),
     }
@@ -49,6 +49,7 @@ pub fn accept_known(
 
 // One arrival accepted, for flash that is read where it is mapped and written by a driver: transfer, maps and RAM are left as a take leaves them,
 // and what is to be done to the flash is the plan.
+// Kept, contract: `take` asks the same first. It is lent the flash to write, and this to read.
 pub fn accept(
     settings: Settings,
     transfer: Transfer,
@@ -90,6 +91,7 @@ pub fn take_known(
 }
 
 // One arrival: the next transfer and the answer, and what it writes. It gets nothing from a look, and repeats every check.
+// Kept, contract: `accept` asks the same first. It is lent the flash to read, and this to write.
 pub fn take(
     settings: Settings,
     transfer: Transfer,

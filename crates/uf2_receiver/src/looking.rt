@@ -8,7 +8,6 @@ ghost use Rattle.uf2_receiver.specs.Looking.{previewed};
 use partitions::Settings;
 use transfer::{Answer, Transfer};
 use uf2_checks::Lengths;
-use uf2_known::Verdict;
 
 // What a look says: the answer, and whether a running transfer would be discarded.
 #[derive(Clone, Copy)]
@@ -38,11 +37,11 @@ pub fn look(
     let known = uf2_known::known_of(settings, lens, seen.len(), sectors.len(), arrival);
     let verdict = uf2_decide::judge(known, transfer, arrival, flash, seen, sectors, main, xip);
     match verdict {
-        Verdict::Leaves(answer) => Preview {
+        Err(answer) => Preview {
             answer,
             discarded: false,
         },
-        Verdict::Accepts(acceptance) => {
+        Ok(acceptance) => {
             let would = acceptance.accepted;
             let answer = would.answer;
             Preview {

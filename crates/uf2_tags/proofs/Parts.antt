@@ -5,21 +5,12 @@ use Prim.Native.Nat.{ℕ, ◌+◌, ◌-◌, min}
 use native.Mathlib.Omega.{arith}
 use lib.ListN.{length, take, drop, length-drop, drop_of_length-le}
 use lib.Seq.{take_all, take-length, take-nil}
+use Rattle.std.proofs.lemmas.List.{take_min}
 use lib.Dec.{leb}
 use borrow.Author.Tests.{leb-true, leb-false}
 use Rattle.laws.proofs.Tests.{split}
 use Rattle.uf2_tags.specs.declared.one_tag.Tag.{Tag}
 use Rattle.uf2_tags.specs.Tag.{contents_of}
-
-take_least : (n : ℕ) (l : List ℕ) → take (min n (length l)) l ≡ take n l
-take_least n l =
-    split (leb n (length l))
-    (λ y.
-    let e : min n (length l) ≡ n = omega (arith, leb-true n (length l) y) in
-    rw e)
-    (λ z.
-    let e : min n (length l) ≡ length l = omega (arith, leb-false n (length l) z) in
-    rw e (take-length l ∙ sym (take_all n l (omega (arith, leb-false n (length l) z)))))
 
 -- from the lesser of the start and the length, the lesser of the count and what is left
 pub clamped : (b : List ℕ) (t : Tag) (from len : ℕ) → from ≡ min t.start (length b) → len ≡ min t.len (length b - from)
@@ -31,7 +22,7 @@ clamped b t from len f h =
     (λ y.
     let e : from ≡ t.start = omega (arith, leb-true t.start (length b) y) in
     let k : length b - from ≡ length (drop from b) = sym (length-drop from b) in
-    rw (n, h, k, take_least t.len (drop from b), e))
+    rw (n, h, k, take_min t.len (drop from b), e))
     (λ z.
     let w = leb-false t.start (length b) z in
     let past : drop from b ≡ [] = drop_of_length-le b {i = from} (omega (arith, w)) in

@@ -8,9 +8,8 @@ use lib.ListN.{get_or}
 use lib.Dec.{eqb}
 use Rattle.laws.proofs.Tests.{clash, split}
 use Rattle.uf2_tags.specs.declared.one_tag.Tag.{Tag}
-use Rattle.uf2_tags.specs.declared.one_tag.Answer.{Answer}
-use Rattle.uf2_tags.specs.declared.one_tag.Answer.TheVariants.{Tag as a-tag}
-use Rattle.uf2_tags.specs.Tag.{tag_of, is_tag}
+use Rattle.std.specs.Prelude.{Ok, Some}
+use Rattle.uf2_tags.specs.Tag.{Answer, tag_of, is_tag}
 use Rattle.uf2_tags.proofs.one_tag.Laws.{on_other, the_tag}
 use Rattle.uf2_tags.specs.Room.{first_place, room_end, tag_at}
 use Rattle.uf2_tags.proofs.room.Laws.{tag_here, room_end_lem}
@@ -36,7 +35,7 @@ pub record Moves (b : List ℕ) (at next : ℕ) : Type 0 where
   pub within : next ≤ room_end b
   pub even : next % 4 ≡ 0
 
-tag_moves : (b : List ℕ) (at : ℕ) (t : Tag) → tag_at b at ≡ a-tag t → Moves b at t.next
+tag_moves : (b : List ℕ) (at : ℕ) (t : Tag) → tag_at b at ≡ Ok (Some t) → Moves b at t.next
 unfolding tag_of
 tag_moves b at t e =
     let h = tag_here b at t e in

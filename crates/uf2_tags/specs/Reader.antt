@@ -2,8 +2,7 @@
 use Rattle.std.specs.Prelude.{ℕ, ◌+◌, List}
 use Rattle.std.specs.Borrow.{Bor}
 use Rattle.uf2_tags.specs.declared.one_tag.Tag.{Tag}
-use Rattle.uf2_tags.specs.declared.one_tag.Answer.{Answer}
-use Rattle.uf2_tags.specs.Tag.{answer_number, on_tag}
+use Rattle.uf2_tags.specs.Tag.{Answer, answer_number, on_tag}
 use Rattle.uf2_tags.specs.Room.{first_place, tag_at}
 use Rattle.uf2_tags.specs.declared.Move.{Move}
 use Rattle.uf2_tags.specs.declared.Tags.{Tags}

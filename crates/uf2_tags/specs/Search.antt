@@ -1,8 +1,7 @@
 -- The search for a type over a block's extension tags (02, L4). Assumes nothing.
 use Rattle.std.specs.Prelude.{ℕ, zero, suc, Bool, true, cond, List, eqb}
 use Rattle.uf2_tags.specs.declared.one_tag.Tag.{Tag}
-use Rattle.uf2_tags.specs.declared.one_tag.Answer.{Answer}
-use Rattle.uf2_tags.specs.Tag.{on_tag}
+use Rattle.uf2_tags.specs.Tag.{Answer, on_tag}
 use Rattle.uf2_tags.specs.Room.{first_place, tag_at}
 use Rattle.uf2_tags.specs.Reader.{next_place}
 

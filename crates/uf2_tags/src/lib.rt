@@ -4,7 +4,7 @@
 pub mod one_tag;
 pub mod room;
 
-ghost use Rattle.std.specs.Prelude.{◌≡◌, min};
+ghost use Rattle.std.specs.Prelude.{◌≡◌};
 ghost use Rattle.laws.specs.Numbered.{numbered};
 ghost use Rattle.uf2_tags.specs.Tag.{contents_of, answer_number};
 ghost use Rattle.uf2_tags.specs.Room.{tag_at, first_place};
@@ -38,10 +38,11 @@ pub struct Step<'a> {
 fn place_after(at: usize, answer: Answer) -> usize
     ensures { result ≡ next_place at answer }
 {
-    let Answer::Tag(tag) = answer else {
-        return at;
-    };
-    tag.next
+    match answer {
+        Ok(Some(tag)) => tag.next,
+        Ok(None) => at,
+        Err(_) => at,
+    }
 }
 
 // What a call answers at a place, and the place after it.
@@ -90,13 +91,15 @@ pub fn first(block: &[u8]) -> Answer
 fn stops_at(kind: u32, answer: Answer) -> bool
     ensures { result ≡ stops kind answer }
 {
-    let Answer::Tag(tag) = answer else {
-        return true;
-    };
-    tag.kind == kind
+    match answer {
+        Ok(Some(tag)) => tag.kind == kind,
+        Ok(None) => true,
+        Err(_) => true,
+    }
 }
 
 // The first tag of a type, or the end or the refusal before any.
+// Kept, no plainer: a step is one tag, and the tag says where the next stands.
 pub fn find(block: &[u8], kind: u32) -> Answer
     ensures { numbered answer_number result ≡ numbered answer_number (find_of block.now kind) }
 {
@@ -111,18 +114,12 @@ pub fn find(block: &[u8], kind: u32) -> Answer
     }
 }
 
-fn least(a: usize, b: usize) -> usize
-    ensures { result ≡ min a b }
-{
-    if a < b { a } else { b }
-}
-
 // The contents of a tag, as far as they stand in the block.
 pub fn contents(block: &[u8], tag: Tag) -> &[u8]
     ensures { result.now ≡ contents_of block.now tag }
 {
-    let from = least(tag.start, block.len());
-    let len = least(tag.len as usize, block.len() - from);
+    let from = tag.start.min(block.len());
+    let len = (tag.len as usize).min(block.len() - from);
     let end = from + len;
     &block[from..end]
 }

@@ -1,10 +1,10 @@
 // One extension tag of a UF2 block (02, L4): what a call answers, and what a size and a type at a place say.
 ghost use Rattle.std.specs.Prelude.{◌≡◌, ◌≤◌};
 ghost use Rattle.laws.specs.Numbered.{numbered};
-ghost use Rattle.uf2_tags.specs.Tag.{tag_of, sized, answer_number};
+ghost use Rattle.uf2_tags.specs.Tag.{tag_of, sized, error_number, answer_number};
 
 // A tag: its type, where its contents stand in the block and how many bytes they have, and the place after it.
-#[derive(Clone, Copy)]
+#[derive(Clone, Copy, PartialEq, Eq)]
 pub struct Tag {
     pub kind: u32,
     pub start: usize,
@@ -12,20 +12,21 @@ pub struct Tag {
     pub next: usize,
 }
 
-// What a call answers: a tag, the end, or a refusal.
-#[derive(Clone, Copy)]
-pub enum Answer {
-    Tag(Tag),
-    End,
-    BadLength,
-    BadPlace,
-    NotBlock,
-    BadPayload,
-    ShortTag,
-    TypedEnd,
-    PastRoom,
-    NoRoom,
+// Why no tag is answered, by the number of the refusal.
+#[derive(Clone, Copy, PartialEq, Eq)]
+pub enum TagError {
+    BadLength = 1,
+    BadPlace = 3,
+    NotBlock = 4,
+    BadPayload = 61,
+    ShortTag = 62,
+    TypedEnd = 63,
+    PastRoom = 64,
+    NoRoom = 65,
 }
+
+// What a call answers: a tag, None for the end, or a refusal.
+pub type Answer = Result<Option<Tag>, TagError>;
 
 impl Tag {
     // Types that 000 lists: a text (semver), a text, a number of 32 bits, a checksum, a number of 32 or 64 bits.
@@ -40,27 +41,27 @@ impl Tag {
     pub const DEVICE_TYPE: u32 = 0xc8a729;
 }
 
-impl Answer {
-    // The number of a refusal; 0 for a tag, 60 for the end.
+impl TagError {
     pub fn number(self) -> u8
-        ensures { result ≡ answer_number self }
+        ensures { result ≡ error_number self }
     {
-        match self {
-            Answer::Tag(_) => 0,
-            Answer::End => 60,
-            Answer::BadLength => 1,
-            Answer::BadPlace => 3,
-            Answer::NotBlock => 4,
-            Answer::BadPayload => 61,
-            Answer::ShortTag => 62,
-            Answer::TypedEnd => 63,
-            Answer::PastRoom => 64,
-            Answer::NoRoom => 65,
-        }
+        self as u8
+    }
+}
+
+// The number of an answer: 0 for a tag, 60 for the end.
+pub fn number(answer: Answer) -> u8
+    ensures { result ≡ answer_number answer }
+{
+    match answer {
+        Ok(Some(_)) => 0,
+        Ok(None) => 60,
+        Err(error) => error.number(),
     }
 }
 
 // The tag of a size and a type at a place.
+#[tactic(auto, unfolding(crate::specs::Tag::tag_of))]
 fn made(size: u8, kind: u32, at: u16) -> Tag
     requires { 4 ≤ size }
     ensures { result ≡ tag_of size kind at }
@@ -82,15 +83,15 @@ pub fn tag_sized(size: u8, kind: u32, at: u16, end: u16) -> Answer
 {
     if size == 0 {
         if kind == 0 {
-            return Answer::End;
+            return Ok(None);
         }
-        return Answer::TypedEnd;
+        return Err(TagError::TypedEnd);
     }
     if size < 4 {
-        return Answer::ShortTag;
+        return Err(TagError::ShortTag);
     }
     if (end as usize) < at as usize + size as usize {
-        return Answer::PastRoom;
+        return Err(TagError::PastRoom);
     }
-    Answer::Tag(made(size, kind, at))
+    Ok(Some(made(size, kind, at)))
 }

@@ -4,7 +4,7 @@ ghost use Rattle.laws.specs.Numbered.{numbered};
 ghost use Rattle.uf2_tags.specs.Tag.{sized, answer_number};
 ghost use Rattle.uf2_tags.specs.Room.{bad_payload, bad_place, room_end, kind_at, stands_at, tag_at, first_place};
 
-use crate::one_tag::Answer;
+use crate::one_tag::{Answer, TagError};
 use uf2_block::Block;
 
 // where the data of a block starts, and the most bytes that a payload may have
@@ -17,12 +17,14 @@ const ROOM: usize = 508;
 
 const ROOM_MD5: usize = 484;
 
+#[tactic(auto, unfolding(crate::specs::Room::bad_payload))]
 fn bad_payload(size: u32) -> bool
     ensures { result ≡ bad_payload size }
 {
     (PAYLOAD < size) | (size % 4 != 0)
 }
 
+#[tactic(auto, unfolding(crate::specs::Room::bad_place))]
 fn bad_place(from: usize, at: usize) -> bool
     ensures { result ≡ bad_place from at }
 {
@@ -41,7 +43,7 @@ fn room_end(block: &[u8]) -> usize
     ensures value { result ≡ room_end block.now }
     ensures within { (484 ≤ result) × (result ≤ 508) }
 {
-    if uf2_block::field(block, 8) / Block::FLAG_MD5 % 2 == 1 {
+    if uf2_block::has_region(block) {
         return ROOM_MD5;
     }
     ROOM
@@ -65,12 +67,12 @@ fn stands_at(block: &[u8], at: usize) -> Answer
     ensures { result ≡ stands_at block.now at }
 {
     if bad_place(first_place(block), at) {
-        return Answer::BadPlace;
+        return Err(TagError::BadPlace);
     }
     let end = room_end(block);
     // no sum of a handed place: it may be near 2^64
     if end - 4 < at {
-        return Answer::NoRoom;
+        return Err(TagError::NoRoom);
     }
     tag_in(block, at, end)
 }
@@ -80,16 +82,16 @@ pub fn tag_at(block: &[u8], at: usize) -> Answer
     ensures { numbered answer_number result ≡ numbered answer_number (tag_at block.now at) }
 {
     if block.len() != Block::ARRIVAL {
-        return Answer::BadLength;
+        return Err(TagError::BadLength);
     }
     if !uf2_block::is_block(block) {
-        return Answer::NotBlock;
+        return Err(TagError::NotBlock);
     }
-    if uf2_block::field(block, 8) / Block::FLAG_TAGS % 2 != 1 {
-        return Answer::End;
+    if uf2_block::field(block, 8) & Block::FLAG_TAGS == 0 {
+        return Ok(None);
     }
     if bad_payload(uf2_block::field(block, 16)) {
-        return Answer::BadPayload;
+        return Err(TagError::BadPayload);
     }
     stands_at(block, at)
 }

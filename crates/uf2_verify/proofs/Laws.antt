@@ -8,6 +8,7 @@ use native.Mathlib.Omega.{arith}
 use lib.Dec.{eqb, leb}
 use lib.ListN.{length, get_or, take, drop, length-take, length-drop}
 use borrow.Author.Tests.{le-leb, lt-leb, eq-eqb, ne_eqb}
+use Rattle.std.specs.Prelude.{Result, Ok, Err}
 use Rattle.laws.specs.Sets.{any}
 use Rattle.laws.proofs.Laws.{any_zero}
 use Rattle.memory.specs.Flash.{payload_of}
@@ -15,24 +16,20 @@ use Rattle.memory.proofs.flash.Laws.{length_payload}
 use Rattle.uf2_block.specs.Block.{field_at}
 use Rattle.partitions.specs.declared.Settings.{Settings}
 use Rattle.placement.specs.Place.{StartsLow}
-use Rattle.placement.specs.declared.Place.{Place}
 use Rattle.transfer.specs.Transfer.{fresh}
 use Rattle.transfer.specs.declared.Transfer.{Transfer}
 use Rattle.transfer.specs.declared.Answer.{Answer}
 use Rattle.transfer.specs.declared.Answer.TheVariants.{BadBuffers, BadSettings}
 use Rattle.transfer.specs.declared.State.TheVariants.{Idle}
-use Rattle.uf2_checks.specs.Screen.{screen_in, screen_of, screen_at}
+use Rattle.uf2_checks.specs.Screen.{screen_in, screen_of, screen_at, Screening}
 use Rattle.uf2_checks.specs.declared.Lengths.{Lengths}
 use Rattle.uf2_checks.specs.declared.Rooms.{Rooms}
 use Rattle.uf2_checks.specs.declared.PlacedBlock.{PlacedBlock}
-use Rattle.uf2_checks.specs.declared.Screening.{Screening}
-use Rattle.uf2_checks.specs.declared.Screening.TheVariants as screening
 use Rattle.uf2_checks.proofs.Laws.{low_kept}
 use Rattle.arrival.specs.Arrive.{Held, lengths_of}
 use Rattle.uf2_known.specs.Verdict.{known_of}
 use Rattle.uf2_known.specs.declared.Known.{Known}
 use Rattle.uf2_verify.specs.declared.Stand.{Stand}
-use Rattle.uf2_verify.specs.declared.Stand.TheVariants.{Refused}
 use Rattle.uf2_verify.specs.Stands.{differ_at, same_page, page_stands, body_stands, told_by, after_rows, stand_of, known_stand}
 
 -- ---- two pages, byte for byte
@@ -85,24 +82,24 @@ pub fresh_screen : (r : Rooms) (n : Lengths) (a : List ℕ) {t : Transfer} {c : 
 fresh_screen r n a e q = e ∙ ap (λ (t : Transfer). screen_at r n t.state a) q
 
 module _ (known : Known) (h : Held) (a : List ℕ) where
-  pub told_lengths : known.right ≡ false → Refused BadBuffers ≡ known_stand known h a
+  pub told_lengths : known.right ≡ false → Err BadBuffers ≡ known_stand known h a
   unfolding known_stand
   told_lengths l = rw l
 
   module _ (l : known.right ≡ true) where
-    pub told_settings : known.good ≡ false → Refused BadSettings ≡ known_stand known h a
+    pub told_settings : known.good ≡ false → Err BadSettings ≡ known_stand known h a
     unfolding known_stand
     told_settings g = rw (l, g)
 
     module _ (g : known.good ≡ true) {c : Screening} (e : c ≡ screen_at known.rooms (lengths_of h) Idle a) where
-      after : {x : Stand} → x ≡ after_rows h (payload_of a) c → x ≡ known_stand known h a
+      after : {x : Result Stand Answer} → x ≡ after_rows h (payload_of a) c → x ≡ known_stand known h a
       unfolding known_stand
       after y = rw (l, g) (y ∙ ap (after_rows h (payload_of a)) e)
 
-      pub told_refused : {x : Answer} → c ≡ screening.Refused x → Refused x ≡ known_stand known h a
+      pub told_refused : {x : Answer} → c ≡ Err x → Err x ≡ known_stand known h a
       told_refused q = after (unfold after_rows in rw q)
 
-      pub told_passed : {p : PlacedBlock} → c ≡ screening.Passed p → {x : Stand}
+      pub told_passed : {p : PlacedBlock} → c ≡ Ok p → {x : Result Stand Answer}
           → x ≡ told_by (body_stands h p.head.kind p.body (payload_of a)) → x ≡ known_stand known h a
       told_passed q y = after (unfold after_rows in rw q y)
 

@@ -19,26 +19,24 @@ ghost use Rattle.uf2_verify.specs.Stands.{
 use memory::flash::Flash;
 use partitions::Settings;
 use transfer::{Answer, Kind, Transfer};
-use uf2_checks::{Body, Lengths, PlacedBlock, Screening};
+use uf2_checks::{Body, Lengths, PlacedBlock};
 use uf2_known::Known;
 
-// What is told of an arrival.
+// What is told of an arrival that no row refuses.
 #[derive(Clone, Copy)]
 pub enum Stand {
-    Refused(Answer),
     Stands,
     Differs,
 }
 
-impl Stand {
-    pub fn number(self) -> u8
-        ensures { result ≡ stand_number self }
-    {
-        match self {
-            Stand::Refused(answer) => answer.number(),
-            Stand::Stands => 95,
-            Stand::Differs => 96,
-        }
+// The number of what is told of an arrival: of a refusal its own.
+pub fn number(told: Result<Stand, Answer>) -> u8
+    ensures { result ≡ stand_number told }
+{
+    match told {
+        Err(answer) => answer.number(),
+        Ok(Stand::Stands) => 95,
+        Ok(Stand::Differs) => 96,
     }
 }
 
@@ -49,10 +47,8 @@ fn same_page(a: &[u8], b: &[u8]) -> bool
     ensures { result ≡ same_page a.now b.now }
 {
     let mut same = true;
-    let mut i: usize = 0;
-    while i < Flash::PAYLOAD {
+    for i in 0..Flash::PAYLOAD {
         same = same & (a[i] == b[i]);
-        i += 1;
     }
     same
 }
@@ -103,27 +99,39 @@ fn body_stands(
 }
 
 // A block that has passed the rows.
-fn compared(placed: PlacedBlock, arrival: &[u8], flash: &[u8], main: &[u8], xip: &[u8]) -> Stand
+fn compared(
+    placed: PlacedBlock,
+    arrival: &[u8],
+    flash: &[u8],
+    main: &[u8],
+    xip: &[u8],
+) -> Result<Stand, Answer>
     ensures { result ≡ told_by (body_stands (memory_at flash.now main.now xip.now) placed.head.kind placed.body (payload_of arrival.now)) }
 {
     let head = placed.head;
     let kind = head.kind;
     let body = placed.body;
     if body_stands(kind, body, arrival, flash, main, xip) {
-        return Stand::Stands;
+        return Ok(Stand::Stands);
     }
-    Stand::Differs
+    Ok(Stand::Differs)
 }
 
 // The rows in their order, and the comparison. What the settings and the lengths say is handed in.
-pub fn stands_known(known: Known, arrival: &[u8], flash: &[u8], main: &[u8], xip: &[u8]) -> Stand
+pub fn stands_known(
+    known: Known,
+    arrival: &[u8],
+    flash: &[u8],
+    main: &[u8],
+    xip: &[u8],
+) -> Result<Stand, Answer>
     ensures { numbered stand_number result ≡ numbered stand_number (known_stand known (memory_at flash.now main.now xip.now) arrival.now) }
 {
     if !known.right {
-        return Stand::Refused(Answer::BadBuffers);
+        return Err(Answer::BadBuffers);
     }
     if !known.good {
-        return Stand::Refused(Answer::BadSettings);
+        return Err(Answer::BadSettings);
     }
     let lens = Lengths {
         flash: flash.len(),
@@ -132,15 +140,18 @@ pub fn stands_known(known: Known, arrival: &[u8], flash: &[u8], main: &[u8], xip
     };
     let fresh = Transfer::new();
     let rooms = known.rooms;
-    let screening = uf2_checks::block_checks::screen(rooms, lens, fresh, arrival);
-    match screening {
-        Screening::Refused(answer) => Stand::Refused(answer),
-        Screening::Passed(placed) => compared(placed, arrival, flash, main, xip),
-    }
+    let placed = uf2_checks::block_checks::screen(rooms, lens, fresh, arrival)?;
+    compared(placed, arrival, flash, main, xip)
 }
 
 // Does what the arrival holds stand in the memory?
-pub fn stands(settings: Settings, arrival: &[u8], flash: &[u8], main: &[u8], xip: &[u8]) -> Stand
+pub fn stands(
+    settings: Settings,
+    arrival: &[u8],
+    flash: &[u8],
+    main: &[u8],
+    xip: &[u8],
+) -> Result<Stand, Answer>
     ensures { numbered stand_number result ≡ numbered stand_number (stand_of settings (memory_at flash.now main.now xip.now) arrival.now) }
 {
     let lens = Lengths {

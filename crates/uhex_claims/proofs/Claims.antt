@@ -11,7 +11,7 @@ use Rattle.laws.specs.Stores.{Store, latest}
 use Rattle.laws.proofs.StoresLaws.{latest_append, latest_none, latest_last, get_d_over}
 use Rattle.ihex_record.specs.Record.{word_of, read_of}
 use Rattle.ihex_record.specs.declared.Record.{Record}
-use Rattle.ihex_record.specs.declared.ParseResult.TheVariants.{Good}
+use Rattle.std.specs.Prelude.{Ok}
 use Rattle.uhex_grammar.specs.Answers.{number_of, is_failure}
 use Rattle.uhex_grammar.specs.Boards.{is_v1, is_v2, has_board}
 use Rattle.uhex_grammar.proofs.Laws.{kept_failure}
@@ -51,7 +51,7 @@ module _ (r : Reader) (l img : List ℕ) where
 
   -- a mark of the reader, which only a line that moves the offset can set
   mark_next : (p : Reader → Bool) (is : Bool) → ((s : ReaderState) → p (with_state r s) ≡ p r) → ((q : Reader) (e : ℕ) → p (moved_to q e) ≡ p q)
-      → ((rec : Record) (q : Reader) → (read_of l).parsed ≡ Good rec → After r l rec q → p q ≡ p r || is)
+      → ((rec : Record) (q : Reader) → (read_of l).parsed ≡ Ok rec → After r l rec q → p q ≡ p r || is)
       → {o : LineOutcome} → LineCase r l img o → p o.reader ≡ p r || moves_offset o.answer && is
   mark_next p is s m f (bad a n x) = rw (lt-leb 32 (number_of a) (omega arith)) (sym (or-false (p r)))
   mark_next p is s m f (past e) = sym (or-false (p r))
@@ -74,7 +74,7 @@ module _ (r : Reader) (l img : List ℕ) where
   sections_seen_next b v =
       mark_next (λ q. has_board q.sections_seen b) (names b r l) (λ s. refl) (λ q e. refl) (λ rec q p w. rw p (w.sections_seen b v))
 
-  upper_onward : {rec : Record} {q : Reader} → (read_of l).parsed ≡ Good rec → After r l rec q
+  upper_onward : {rec : Record} {q : Reader} → (read_of l).parsed ≡ Ok rec → After r l rec q
       → q.upper ≡ cond (allows_extended_linear r.state && says_extended_linear (read_of l).parsed) (word_of (read_of l).«data») r.upper
   upper_onward p w = rw p w.upper
 

@@ -10,21 +10,22 @@ use lib.Dec.{ltb, leb, eqb}
 use lib.ListN.{length}
 use borrow.Author.Tests.{eqb-true, eqb-false, leb-true, leb-false, ltb-true, le-leb, le-ltb, lt-ltb}
 use Rattle.laws.proofs.Tests.{split, clash, and_left, and_right}
-use Rattle.ihex_record.specs.Record.{word_of, read_of}
+use Rattle.ihex_record.specs.Record.{ParseResult, word_of, read_of}
 use Rattle.ihex_record.specs.declared.Record.{Record}
-use Rattle.ihex_record.specs.declared.ParseResult.{ParseResult}
-use Rattle.ihex_record.specs.declared.ParseResult.TheVariants as parsed
+use Rattle.std.specs.Prelude.{Option, Some, None, Result, Ok, Err}
 use Rattle.uhex_grammar.specs.Answers.{number_of}
 use Rattle.uhex_grammar.specs.Boards.{has_board, both_boards}
 use Rattle.uhex_grammar.specs.Grammar.{is_extended_linear, is_end_of_file, is_block_start, data_kind, after_padding, role_of}
+use Rattle.ihex_record.specs.declared.LineError.TheVariants as error
+use Rattle.uhex_grammar.specs.declared.Answer.{Answer}
 use Rattle.uhex_grammar.specs.declared.Answer.TheVariants as answer
 use Rattle.uhex_grammar.specs.declared.ReaderState.{ReaderState}
 use Rattle.uhex_grammar.specs.declared.ReaderState.TheVariants.{Between, Opened, Inside, Padded, Ended, Failed}
 use Rattle.uhex_grammar.specs.declared.Role.{Role}
-use Rattle.uhex_grammar.specs.declared.Role.TheVariants.{Opening, Naming, Address, Data, Padding, Other, Closing, Ending, Refused}
+use Rattle.uhex_grammar.specs.declared.Role.TheVariants.{Opening, Naming, Address, Data, Padding, Other, Closing, Ending}
 use Rattle.uhex_effects.specs.declared.Reader.{Reader}
 use Rattle.uhex_effects.specs.declared.Effect.{Effect}
-use Rattle.uhex_effects.specs.declared.Effect.TheVariants.{Fails, Passes, Stores, Ends}
+use Rattle.uhex_effects.specs.declared.Effect.TheVariants.{Passes, Stores, Ends}
 use Rattle.uhex_reader.specs.Reader.{with_data, given_of, effect_of}
 use Rattle.uhex_reader.specs.Line.{LineOutcome, address_of, outside, storing, effect_outcome, parsed_line, live_line, halt_line, halt_of, bad_image, line_of}
 use Rattle.uhex_claims.proofs.Facts.{good_line}
@@ -61,45 +62,45 @@ open_live r l img o = rw (o.ready.image, o.ready.reader) (open_state r l img r.s
 -- ---- what a step can come to
 
 -- a failure by a record is one of 26 to 30
-Below : Effect → Type 0
-Below (Fails a) = number_of a ≤ 30
-Below (Passes q) = Unit {0}
-Below (Stores q) = Unit {0}
-Below (Ends q) = Unit {0}
+Below : Result Effect Answer → Type 0
+Below (Err a) = number_of a ≤ 30
+Below (Ok (Passes q)) = Unit {0}
+Below (Ok (Stores q)) = Unit {0}
+Below (Ok (Ends q)) = Unit {0}
 
-effect_below : (r : Reader) (x : Role) (address len word : ℕ) → Below (effect_of r x address len word)
+effect_below : (r : Reader) (x : Option Role) (address len word : ℕ) → Below (effect_of r x address len word)
 unfolding Below effect_of given_of
-effect_below r Opening address len word = split (eqb (r.offset % 512) 0) (λ y. rw y tt) (λ n. rw n (omega arith))
-effect_below r Naming address len word = split (has_board r.sections_seen word) (λ y. rw y (omega arith)) (λ n. rw n tt)
-effect_below r Address address len word = tt
-effect_below r (Data b) address len word =
+effect_below r (Some Opening) address len word = split (eqb (r.offset % 512) 0) (λ y. rw y tt) (λ n. rw n (omega arith))
+effect_below r (Some Naming) address len word = split (has_board r.sections_seen word) (λ y. rw y (omega arith)) (λ n. rw n tt)
+effect_below r (Some Address) address len word = tt
+effect_below r (Some (Data b)) address len word =
     split (ltb 65536 (address + len))
     (λ y. rw y (omega arith))
     (λ n. rw n (split (eqb len 0) (λ y. rw y tt) (λ z. rw z (split (eqb b r.own) (λ y. rw y tt) (λ w. rw w tt)))))
-effect_below r (Padding b) address len word = tt
-effect_below r Other address len word = tt
-effect_below r Closing address len word = tt
-effect_below r Ending address len word = split (both_boards r.data_seen) (λ y. rw y tt) (λ n. rw n (omega arith))
-effect_below r Refused address len word = omega arith
+effect_below r (Some (Padding b)) address len word = tt
+effect_below r (Some Other) address len word = tt
+effect_below r (Some Closing) address len word = tt
+effect_below r (Some Ending) address len word = split (both_boards r.data_seen) (λ y. rw y tt) (λ n. rw n (omega arith))
+effect_below r None address len word = omega arith
 
-outcome_below : (r : Reader) (rec : Record) (d : List ℕ) (e : ℕ) (img : List ℕ) (t : Effect) → Below t → number_of (effect_outcome r rec d e img t).answer ≤ 35
+outcome_below : (r : Reader) (rec : Record) (d : List ℕ) (e : ℕ) (img : List ℕ) (t : Result Effect Answer) → Below t → number_of (effect_outcome r rec d e img t).answer ≤ 35
 unfolding Below effect_outcome storing
-outcome_below r rec d e img (Fails a) h = omega arith
-outcome_below r rec d e img (Passes q) h = omega arith
-outcome_below r rec d e img (Stores q) h = split (outside q rec img) (λ y. rw y (omega arith)) (λ n. rw n (omega arith))
-outcome_below r rec d e img (Ends q) h = omega arith
+outcome_below r rec d e img (Err a) h = omega arith
+outcome_below r rec d e img (Ok (Passes q)) h = omega arith
+outcome_below r rec d e img (Ok (Stores q)) h = split (outside q rec img) (λ y. rw y (omega arith)) (λ n. rw n (omega arith))
+outcome_below r rec d e img (Ok (Ends q)) h = omega arith
 
 parsed_below : (r : Reader) (d : List ℕ) (e : ℕ) (img : List ℕ) (p : ParseResult) → number_of (parsed_line r d e img p).answer ≤ 35
 unfolding parsed_line Rattle.uhex_reader.specs.Line.record_outcome
-parsed_below r d e img (parsed.Good rec) =
+parsed_below r d e img (Ok rec) =
     outcome_below r rec d e img (effect_of r (role_of r.state rec.kind rec.len) rec.address rec.len (word_of d))
     (effect_below r (role_of r.state rec.kind rec.len) rec.address rec.len (word_of d))
-parsed_below r d e img parsed.NoColon = omega arith
-parsed_below r d e img parsed.BadShape = omega arith
-parsed_below r d e img (parsed.BadDigit k) = omega arith
-parsed_below r d e img parsed.TooLong = omega arith
-parsed_below r d e img parsed.BadLength = omega arith
-parsed_below r d e img parsed.BadSum = omega arith
+parsed_below r d e img (Err error.NoColon) = omega arith
+parsed_below r d e img (Err error.BadShape) = omega arith
+parsed_below r d e img (Err (error.BadDigit k)) = omega arith
+parsed_below r d e img (Err error.TooLong) = omega arith
+parsed_below r d e img (Err error.BadLength) = omega arith
+parsed_below r d e img (Err error.BadSum) = omega arith
 
 pub too_long_exactly : TooLongExactly
 unfolding TooLongExactly live_line
@@ -210,7 +211,7 @@ others_pass r l img rec o b e k = others r l img rec o b e k
 -- ---- 26
 
 -- a record has a place, or is refused
-allowed_or : (s : ReaderState) (kind len : ℕ) → s ≢ Ended → ((f : Rattle.uhex_grammar.specs.declared.Failure.Failure) → s ≢ Failed f) → Allowed s kind len ⊎ (role_of s kind len ≡ Refused)
+allowed_or : (s : ReaderState) (kind len : ℕ) → s ≢ Ended → ((f : Rattle.uhex_grammar.specs.declared.Failure.Failure) → s ≢ Failed f) → Allowed s kind len ⊎ (role_of s kind len ≡ None)
 unfolding role_of after_padding
 allowed_or Between kind len u v =
     split (is_extended_linear kind len)
@@ -253,16 +254,16 @@ allowed_or Ended kind len u v = absurd (u refl)
 allowed_or (Failed f) kind len u v = absurd (v f refl)
 
 -- a role that is none of refused
-is_refused : Role → Bool
-is_refused Opening = false
-is_refused Naming = false
-is_refused Address = false
-is_refused (Data b) = false
-is_refused (Padding b) = false
-is_refused Other = false
-is_refused Closing = false
-is_refused Ending = false
-is_refused Refused = true
+is_refused : Option Role → Bool
+is_refused (Some Opening) = false
+is_refused (Some Naming) = false
+is_refused (Some Address) = false
+is_refused (Some (Data b)) = false
+is_refused (Some (Padding b)) = false
+is_refused (Some Other) = false
+is_refused (Some Closing) = false
+is_refused (Some Ending) = false
+is_refused None = true
 
 allowed_role : {s : ReaderState} {kind len : ℕ} → Allowed s kind len → is_refused (role_of s kind len) ≡ false
 unfolding role_of after_padding is_refused
@@ -279,33 +280,33 @@ allowed_role padded_0_c = refl
 allowed_role padded_0_b = refl
 
 -- the answer of a step that a role allows is not 26
-Not26 : Effect → Type 0
-Not26 (Fails a) = number_of a ≢ 26
-Not26 (Passes q) = Unit {0}
-Not26 (Stores q) = Unit {0}
-Not26 (Ends q) = Unit {0}
+Not26 : Result Effect Answer → Type 0
+Not26 (Err a) = number_of a ≢ 26
+Not26 (Ok (Passes q)) = Unit {0}
+Not26 (Ok (Stores q)) = Unit {0}
+Not26 (Ok (Ends q)) = Unit {0}
 
-effect_not : (r : Reader) (x : Role) (address len word : ℕ) → is_refused x ≡ false → Not26 (effect_of r x address len word)
+effect_not : (r : Reader) (x : Option Role) (address len word : ℕ) → is_refused x ≡ false → Not26 (effect_of r x address len word)
 unfolding Not26 effect_of given_of is_refused
-effect_not r Opening address len word h = split (eqb (r.offset % 512) 0) (λ y. rw y tt) (λ n. rw n (λ e. omega arith))
-effect_not r Naming address len word h = split (has_board r.sections_seen word) (λ y. rw y (λ e. omega arith)) (λ n. rw n tt)
-effect_not r Address address len word h = tt
-effect_not r (Data b) address len word h =
+effect_not r (Some Opening) address len word h = split (eqb (r.offset % 512) 0) (λ y. rw y tt) (λ n. rw n (λ e. omega arith))
+effect_not r (Some Naming) address len word h = split (has_board r.sections_seen word) (λ y. rw y (λ e. omega arith)) (λ n. rw n tt)
+effect_not r (Some Address) address len word h = tt
+effect_not r (Some (Data b)) address len word h =
     split (ltb 65536 (address + len))
     (λ y. rw y (λ e. omega arith))
     (λ n. rw n (split (eqb len 0) (λ y. rw y tt) (λ z. rw z (split (eqb b r.own) (λ y. rw y tt) (λ w. rw w tt)))))
-effect_not r (Padding b) address len word h = tt
-effect_not r Other address len word h = tt
-effect_not r Closing address len word h = tt
-effect_not r Ending address len word h = split (both_boards r.data_seen) (λ y. rw y tt) (λ n. rw n (λ e. omega arith))
-effect_not r Refused address len word h = clash true refl h
+effect_not r (Some (Padding b)) address len word h = tt
+effect_not r (Some Other) address len word h = tt
+effect_not r (Some Closing) address len word h = tt
+effect_not r (Some Ending) address len word h = split (both_boards r.data_seen) (λ y. rw y tt) (λ n. rw n (λ e. omega arith))
+effect_not r None address len word h = clash true refl h
 
-outcome_not : (r : Reader) (rec : Record) (d : List ℕ) (e : ℕ) (img : List ℕ) (t : Effect) → Not26 t → number_of (effect_outcome r rec d e img t).answer ≢ 26
+outcome_not : (r : Reader) (rec : Record) (d : List ℕ) (e : ℕ) (img : List ℕ) (t : Result Effect Answer) → Not26 t → number_of (effect_outcome r rec d e img t).answer ≢ 26
 unfolding Not26 effect_outcome storing
-outcome_not r rec d e img (Fails a) h = h
-outcome_not r rec d e img (Passes q) h = λ f. omega arith
-outcome_not r rec d e img (Stores q) h = split (outside q rec img) (λ y. rw y (λ f. omega arith)) (λ n. rw n (λ f. omega arith))
-outcome_not r rec d e img (Ends q) h = λ f. omega arith
+outcome_not r rec d e img (Err a) h = h
+outcome_not r rec d e img (Ok (Passes q)) h = λ f. omega arith
+outcome_not r rec d e img (Ok (Stores q)) h = split (outside q rec img) (λ y. rw y (λ f. omega arith)) (λ n. rw n (λ f. omega arith))
+outcome_not r rec d e img (Ok (Ends q)) h = λ f. omega arith
 
 pub out_of_place_exactly : OutOfPlaceExactly
 unfolding OutOfPlaceExactly
@@ -315,9 +316,9 @@ out_of_place_exactly r l img rec o = (
       (effect_not r (role_of r.state rec.kind rec.len) rec.address rec.len (word_of (read_of l).«data») (allowed_role w))
       (ap number_of (sym (read_at r l img rec o r.state refl) ∙ a)),
   λ w. ⊎_elim (λ (y : Allowed r.state rec.kind rec.len). absurd (w y))
-      (λ (e : role_of r.state rec.kind rec.len ≡ Refused).
+      (λ (e : role_of r.state rec.kind rec.len ≡ None).
       read_at r l img rec o r.state refl
-      ∙ ap (λ (x : Role). (effect_outcome r rec (read_of l).«data» (r.offset + length l) img (effect_of r x rec.address rec.len (word_of (read_of l).«data»))).answer) e
+      ∙ ap (λ (x : Option Role). (effect_outcome r rec (read_of l).«data» (r.offset + length l) img (effect_of r x rec.address rec.len (word_of (read_of l).«data»))).answer) e
       ∙ unfold effect_of effect_outcome in refl)
       (allowed_or r.state rec.kind rec.len o.reader.unended o.reader.unfailed),
 )

@@ -14,7 +14,7 @@ use Rattle.laws.proofs.Tests.{split, clash, is_false, eqb_same, or_left, or_righ
 use Rattle.laws.proofs.OverLaws.{length_over, over_inside, over_before, over_after}
 use Rattle.ihex_record.specs.Record.{word_of, read_of}
 use Rattle.ihex_record.specs.declared.Record.{Record}
-use Rattle.ihex_record.specs.declared.ParseResult.TheVariants.{Good}
+use Rattle.std.specs.Prelude.{Ok}
 use Rattle.uhex_grammar.specs.Answers.{number_of, is_failure}
 use Rattle.uhex_grammar.specs.Boards.{is_v1, is_v2, has_board, both_boards}
 use Rattle.uhex_grammar.specs.Grammar.{is_extended_linear, data_kind, role_of}
@@ -291,13 +291,13 @@ other_board_unchanged r l img b n s =
 -- ---- what a good record comes to, by where the reader stands
 
 -- within the limit
-live_good : (r : Reader) (l img : List ℕ) (rec : Record) → r.offset + length l ≤ 4194304 → (read_of l).parsed ≡ Good rec
+live_good : (r : Reader) (l img : List ℕ) (rec : Record) → r.offset + length l ≤ 4194304 → (read_of l).parsed ≡ Ok rec
     → live_line r l img ≡ record_outcome r rec (read_of l).«data» (r.offset + length l) img
 unfolding live_line parsed_line
 live_good r l img rec m p = rw (le-ltb 4194304 (r.offset + length l) m, p)
 
 -- in a state s that reads on
-pub good_line : (r : Reader) (l img : List ℕ) (rec : Record) (s : ReaderState) → Ready r img → r.offset + length l ≤ 4194304 → (read_of l).parsed ≡ Good rec
+pub good_line : (r : Reader) (l img : List ℕ) (rec : Record) (s : ReaderState) → Ready r img → r.offset + length l ≤ 4194304 → (read_of l).parsed ≡ Ok rec
     → r.state ≡ s → halt_line r l img (halt_of s) ≡ live_line r l img
     → line_of r l img
     ≡ effect_outcome r rec (read_of l).«data» (r.offset + length l) img (effect_of r (role_of s rec.kind rec.len) rec.address rec.len (word_of (read_of l).«data»))
@@ -308,7 +308,7 @@ good_line r l img rec s y m p e live =
     ∙ ap (λ (s : ReaderState). effect_outcome r rec (read_of l).«data» (r.offset + length l) img (effect_of r (role_of s rec.kind rec.len) rec.address rec.len (word_of (read_of l).«data»))) e)
 
 own_step : {r : Reader} {l img : List ℕ} (rec : Record) → OwnData r l img rec
-    → effect_of r (role_of (Inside r.own) rec.kind rec.len) rec.address rec.len (word_of (read_of l).«data») ≡ Stores (with_data r r.own)
+    → effect_of r (role_of (Inside r.own) rec.kind rec.len) rec.address rec.len (word_of (read_of l).«data») ≡ Ok (Stores (with_data r r.own))
 unfolding role_of effect_of given_of
 own_step {r} rec d =
     let k : eqb rec.kind (data_kind r.own) ≡ true = eq-eqb rec.kind (data_kind r.own) d.kind in

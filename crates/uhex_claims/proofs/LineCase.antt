@@ -11,10 +11,10 @@ use lib.ListN.{length, take}
 use borrow.Author.Tests.{eqb-true, eqb-false, ltb-false, not-false, eq-eqb, ne_eqb, le-leb}
 use Rattle.laws.specs.Over.{over}
 use Rattle.laws.proofs.Tests.{split, clash, eqb_same, or_right, and_left}
-use Rattle.ihex_record.specs.Record.{word_of, read_of}
+use Rattle.ihex_record.specs.Record.{ParseResult, word_of, read_of}
 use Rattle.ihex_record.specs.declared.Record.{Record}
-use Rattle.ihex_record.specs.declared.ParseResult.{ParseResult}
-use Rattle.ihex_record.specs.declared.ParseResult.TheVariants as parsed
+use Rattle.std.specs.Prelude.{Option, Some, None, Result, Ok, Err}
+use Rattle.ihex_record.specs.declared.LineError.TheVariants as error
 use Rattle.uhex_grammar.specs.Answers.{number_of, is_kept}
 use Rattle.uhex_grammar.specs.Boards.{is_v1, is_v2, has_board, with_board, both_boards}
 use Rattle.uhex_grammar.specs.Grammar.{is_extended_linear, is_end_of_file, is_block_start, data_kind, after_padding, role_of}
@@ -27,10 +27,10 @@ use Rattle.uhex_grammar.specs.declared.Failure.{Failure}
 use Rattle.uhex_grammar.specs.declared.ReaderState.{ReaderState}
 use Rattle.uhex_grammar.specs.declared.ReaderState.TheVariants.{Between, Opened, Inside, Padded, Ended, Failed}
 use Rattle.uhex_grammar.specs.declared.Role.{Role}
-use Rattle.uhex_grammar.specs.declared.Role.TheVariants.{Opening, Naming, Address, Data, Padding, Other, Closing, Ending, Refused}
+use Rattle.uhex_grammar.specs.declared.Role.TheVariants.{Opening, Naming, Address, Data, Padding, Other, Closing, Ending}
 use Rattle.uhex_effects.specs.declared.Reader.{Reader}
 use Rattle.uhex_effects.specs.declared.Effect.{Effect}
-use Rattle.uhex_effects.specs.declared.Effect.TheVariants.{Fails, Passes, Stores, Ends}
+use Rattle.uhex_effects.specs.declared.Effect.TheVariants.{Passes, Stores, Ends}
 use Rattle.uhex_reader.specs.Reader.{bad_failure, bad_reader, with_state, with_upper, with_section, with_data, moved_to, given_of, effect_of}
 use Rattle.uhex_reader.specs.Line.{LineOutcome, line_outcome, failing, address_of, outside, storing, effect_outcome, record_outcome, parsed_line, live_line, halt_of, halt_line, bad_image, line_of}
 use Rattle.uhex_claims.specs.Facts.{Ready, OwnData}
@@ -43,16 +43,16 @@ abbrev plain : ℕ → Bool
 plain kind = not (eqb kind 0 || eqb kind 4 || eqb kind 10 || eqb kind 13)
 
 -- what is known of a record that is this there
-abbrev RoleFacts : ReaderState → ℕ → ℕ → Role → Type 0
-RoleFacts s kind len Opening = (allows_extended_linear s ≡ true) × (is_extended_linear kind len ≡ true)
-RoleFacts s kind len Naming = (is_opened s ≡ true) × (is_block_start kind len ≡ true)
-RoleFacts s kind len Address = (allows_extended_linear s ≡ true) × (is_extended_linear kind len ≡ true)
-RoleFacts s kind len (Data b) = (s ≡ Inside b) × (kind ≡ data_kind b)
-RoleFacts s kind len (Padding b) = plain kind ≡ true
-RoleFacts s kind len Other = plain kind ≡ true
-RoleFacts s kind len Closing = plain kind ≡ true
-RoleFacts s kind len Ending = plain kind ≡ true
-RoleFacts s kind len Refused = Unit {0}
+abbrev RoleFacts : ReaderState → ℕ → ℕ → Option Role → Type 0
+RoleFacts s kind len (Some Opening) = (allows_extended_linear s ≡ true) × (is_extended_linear kind len ≡ true)
+RoleFacts s kind len (Some Naming) = (is_opened s ≡ true) × (is_block_start kind len ≡ true)
+RoleFacts s kind len (Some Address) = (allows_extended_linear s ≡ true) × (is_extended_linear kind len ≡ true)
+RoleFacts s kind len (Some (Data b)) = (s ≡ Inside b) × (kind ≡ data_kind b)
+RoleFacts s kind len (Some (Padding b)) = plain kind ≡ true
+RoleFacts s kind len (Some Other) = plain kind ≡ true
+RoleFacts s kind len (Some Closing) = plain kind ≡ true
+RoleFacts s kind len (Some Ending) = plain kind ≡ true
+RoleFacts s kind len None = Unit {0}
 
 after_padding_lem : (s : ReaderState) (board kind len : ℕ) → RoleFacts s kind len (after_padding board kind)
 unfolding after_padding
@@ -108,7 +108,7 @@ linear_no_data kind len b y =
 
 -- a record gives a data byte for board b
 abbrev pub given_at : ReaderState → Record → ℕ → Bool
-given_at s rec b = is_inside s b && says_data (parsed.Good rec) b
+given_at s rec b = is_inside s b && says_data (Ok rec) b
 
 -- a record, whose first two data bytes are a word, names board b
 abbrev pub named_at : ReaderState → Record → ℕ → ℕ → Bool
@@ -116,7 +116,7 @@ named_at s rec word b = is_opened s && (is_block_start rec.kind rec.len && eqb w
 
 -- a record is an 04
 abbrev pub set_at : ReaderState → Record → Bool
-set_at s rec = allows_extended_linear s && says_extended_linear (parsed.Good rec)
+set_at s rec = allows_extended_linear s && says_extended_linear (Ok rec)
 
 abbrev DataSeen : Reader → Record → Reader → Type 0
 DataSeen r rec q = (b : ℕ) → is_v1 b || is_v2 b ≡ true → has_board q.data_seen b ≡ has_board r.data_seen b || given_at r.state rec b
@@ -234,15 +234,15 @@ module _ (r : Reader) (rec : Record) (word : ℕ) where
 
 -- ---- what a good record does
 
-pub data EffectCase (r : Reader) (rec : Record) (word : ℕ) : Effect → Type 0 where
-  broke : (a : Answer) → is_kept a ≡ true → EffectCase r rec word (Fails a)
-  went : (q : Reader) → Onward r rec word q → EffectCase r rec word (Passes q)
+pub data EffectCase (r : Reader) (rec : Record) (word : ℕ) : Result Effect Answer → Type 0 where
+  broke : (a : Answer) → is_kept a ≡ true → EffectCase r rec word (Err a)
+  went : (q : Reader) → Onward r rec word q → EffectCase r rec word (Ok (Passes q))
   stores : r.state ≡ Inside r.own → rec.kind ≡ data_kind r.own → 1 ≤ rec.len → rec.address + rec.len ≤ 65536
-      → EffectCase r rec word (Stores (with_data r r.own))
-  closed : Onward r rec word (with_state r Ended) → both_boards r.data_seen ≡ true → EffectCase r rec word (Ends (with_state r Ended))
+      → EffectCase r rec word (Ok (Stores (with_data r r.own)))
+  closed : Onward r rec word (with_state r Ended) → both_boards r.data_seen ≡ true → EffectCase r rec word (Ok (Ends (with_state r Ended)))
 
 module _ (r : Reader) (rec : Record) (word : ℕ) where
-  stores_data : (c : ℕ) → r.state ≡ Inside c → rec.kind ≡ data_kind c → rec.address + rec.len ≤ 65536 → EffectCase r rec word (given_of r c rec.len)
+  stores_data : (c : ℕ) → r.state ≡ Inside c → rec.kind ≡ data_kind c → rec.address + rec.len ≤ 65536 → EffectCase r rec word (Ok (given_of r c rec.len))
   unfolding given_of
   stores_data c s k w =
       split (eqb rec.len 0)
@@ -253,32 +253,32 @@ module _ (r : Reader) (rec : Record) (word : ℕ) where
       (λ y.
       let e : c ≡ r.own = eqb-true c r.own y in
       rw (n, y)
-      (subst (λ (d : ℕ). EffectCase r rec word (Stores (with_data r d))) (sym e) (stores (s ∙ ap Inside e) (k ∙ ap data_kind e) some w)))
+      (subst (λ (d : ℕ). EffectCase r rec word (Ok (Stores (with_data r d)))) (sym e) (stores (s ∙ ap Inside e) (k ∙ ap data_kind e) some w)))
       (λ m. rw (n, m) (went (with_data r c) (onward_data r rec word c s k some))))
 
-  steps : (x : Role) → RoleFacts r.state rec.kind rec.len x → EffectCase r rec word (effect_of r x rec.address rec.len word)
+  steps : (x : Option Role) → RoleFacts r.state rec.kind rec.len x → EffectCase r rec word (effect_of r x rec.address rec.len word)
   unfolding effect_of with_state with_upper bad_failure is_kept
-  steps Opening h =
+  steps (Some Opening) h =
       split (not (eqb (r.offset % 512) 0))
       (λ y. rw y (broke answer.Unaligned refl))
       (λ n. rw n (went (with_state (with_upper r word) Opened) (onward_linear r rec word _ refl refl refl refl (λ e. refl) h)))
-  steps Naming h =
+  steps (Some Naming) h =
       split (has_board r.sections_seen word)
       (λ y. rw y (broke answer.Repeated refl))
       (λ n. rw n (went (with_state (with_section r word) (Inside word)) (onward_name r rec word h)))
-  steps Address h = went (with_upper r word) (onward_linear r rec word _ refl refl refl refl (λ e. e) h)
-  steps (Data c) h =
+  steps (Some Address) h = went (with_upper r word) (onward_linear r rec word _ refl refl refl refl (λ e. e) h)
+  steps (Some (Data c)) h =
       split (ltb 65536 (rec.address + rec.len))
       (λ y. rw y (broke answer.Crosses refl))
       (λ n. rw n (stores_data c h.0 h.1 (ltb-false 65536 (rec.address + rec.len) n)))
-  steps (Padding c) h = went (with_state r (Padded c)) (onward_other r rec word _ refl refl refl refl (λ e. refl) h)
-  steps Other h = went r (onward_other r rec word _ refl refl refl refl (λ e. e) h)
-  steps Closing h = went (with_state r Between) (onward_other r rec word _ refl refl refl refl (λ e. refl) h)
-  steps Ending h =
+  steps (Some (Padding c)) h = went (with_state r (Padded c)) (onward_other r rec word _ refl refl refl refl (λ e. refl) h)
+  steps (Some Other) h = went r (onward_other r rec word _ refl refl refl refl (λ e. e) h)
+  steps (Some Closing) h = went (with_state r Between) (onward_other r rec word _ refl refl refl refl (λ e. refl) h)
+  steps (Some Ending) h =
       split (both_boards r.data_seen)
       (λ y. rw y (closed (onward_other r rec word (with_state r Ended) refl refl refl refl (λ e. refl) h) y))
       (λ n. rw n (broke answer.MissingBoard refl))
-  steps Refused h = broke answer.OutOfPlace refl
+  steps None h = broke answer.OutOfPlace refl
 
 -- ---- the eight ways
 
@@ -295,13 +295,13 @@ pub data LineCase (r : Reader) (l img : List ℕ) : LineOutcome → Type 0 where
   past : r.state ≡ Ended → LineCase r l img (line_outcome r answer.AfterEnd img)
   again : (f : Failure) → r.state ≡ Failed f → is_kept f.answer ≡ true → LineCase r l img (line_outcome r f.answer img)
   failed : (a : Answer) → is_kept a ≡ true → LineCase r l img (failing r a img)
-  out : (rec : Record) (q : Reader) → (read_of l).parsed ≡ parsed.Good rec → After r l rec q → end_of r l ≤ 4194304
+  out : (rec : Record) (q : Reader) → (read_of l).parsed ≡ Ok rec → After r l rec q → end_of r l ≤ 4194304
       → LineCase r l img (line_outcome (moved_to q (end_of r l)) answer.Outside img)
   stored : (rec : Record) (q : Reader) → OwnData r l img rec → After r l rec q → end_of r l ≤ 4194304
       → LineCase r l img (line_outcome (moved_to q (end_of r l)) answer.Stored (over img (address_of r rec) (take rec.len (read_of l).«data»)))
-  passed : (rec : Record) (q : Reader) → (read_of l).parsed ≡ parsed.Good rec → After r l rec q → end_of r l ≤ 4194304
+  passed : (rec : Record) (q : Reader) → (read_of l).parsed ≡ Ok rec → After r l rec q → end_of r l ≤ 4194304
       → LineCase r l img (line_outcome (moved_to q (end_of r l)) answer.Passed img)
-  ended : (rec : Record) → (read_of l).parsed ≡ parsed.Good rec → After r l rec (with_state r Ended) → both_boards r.data_seen ≡ true
+  ended : (rec : Record) → (read_of l).parsed ≡ Ok rec → After r l rec (with_state r Ended) → both_boards r.data_seen ≡ true
       → end_of r l ≤ 4194304 → LineCase r l img (line_outcome (moved_to (with_state r Ended) (end_of r l)) answer.Ended img)
 
 pub good_state_lem : (r : Reader) → bad_reader r ≡ false → bad_failure r.state ≡ false
@@ -309,7 +309,7 @@ unfolding bad_reader
 good_state_lem r n = or_right (not (is_v1 r.own || is_v2 r.own) || ltb 4194304 r.offset) (bad_failure r.state) n
 
 module _ (r : Reader) (l img : List ℕ) where
-  effect_case : (rec : Record) {x : Effect} → (read_of l).parsed ≡ parsed.Good rec → end_of r l ≤ 4194304 → EffectCase r rec (word_of (read_of l).«data») x
+  effect_case : (rec : Record) {x : Result Effect Answer} → (read_of l).parsed ≡ Ok rec → end_of r l ≤ 4194304 → EffectCase r rec (word_of (read_of l).«data») x
       → LineCase r l img (effect_outcome r rec (read_of l).«data» (end_of r l) img x)
   unfolding effect_outcome storing with_data
   effect_case rec p m (broke a f) = failed a f
@@ -327,15 +327,15 @@ module _ (r : Reader) (l img : List ℕ) where
 
   parsed_case : (p : ParseResult) → (read_of l).parsed ≡ p → end_of r l ≤ 4194304 → LineCase r l img (parsed_line r (read_of l).«data» (end_of r l) img p)
   unfolding parsed_line record_outcome is_kept
-  parsed_case (parsed.Good rec) p m =
+  parsed_case (Ok rec) p m =
       effect_case rec p m (steps r rec (word_of (read_of l).«data») (role_of r.state rec.kind rec.len) (role_facts r.state rec.kind rec.len))
-  parsed_case parsed.NoColon p m = failed answer.NoColon refl
-  parsed_case parsed.BadShape p m = failed answer.BadShape refl
-  parsed_case (parsed.BadDigit k) p m =
+  parsed_case (Err error.NoColon) p m = failed answer.NoColon refl
+  parsed_case (Err error.BadShape) p m = failed answer.BadShape refl
+  parsed_case (Err (error.BadDigit k)) p m =
       let w = bad_position_lem l k p in failed (answer.BadDigit k) (kept_digit k w.0 w.1)
-  parsed_case parsed.TooLong p m = failed answer.TooLong refl
-  parsed_case parsed.BadLength p m = failed answer.BadLength refl
-  parsed_case parsed.BadSum p m = failed answer.BadSum refl
+  parsed_case (Err error.TooLong) p m = failed answer.TooLong refl
+  parsed_case (Err error.BadLength) p m = failed answer.BadLength refl
+  parsed_case (Err error.BadSum) p m = failed answer.BadSum refl
 
   live_case : LineCase r l img (live_line r l img)
   unfolding live_line is_kept

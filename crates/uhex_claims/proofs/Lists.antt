@@ -12,7 +12,7 @@ use Rattle.laws.proofs.Tests.{split, clash, both}
 use Rattle.laws.specs.Stores.{Store}
 use Rattle.ihex_record.specs.Record.{read_of, word_of as word_at}
 use Rattle.ihex_record.specs.declared.Record.{Record}
-use Rattle.ihex_record.specs.declared.ParseResult.TheVariants.{Good}
+use Rattle.std.specs.Prelude.{Result, Ok}
 use Rattle.uhex_grammar.specs.Answers.{number_of, is_failure}
 use Rattle.uhex_grammar.proofs.Laws.{kept_failure}
 use Rattle.uhex_grammar.specs.declared.Answer.{Answer}
@@ -85,7 +85,7 @@ module _ (own : ℕ) where
       )
 
   -- and store what they say
-  store_one : (s : State) (l img : List ℕ) (rec : Record) → (read_of l).parsed ≡ Good rec → (o : LineOutcome) → o ≡ onward s (item_of l rec) img
+  store_one : (s : State) (l img : List ℕ) (rec : Record) → (read_of l).parsed ≡ Ok rec → (o : LineOutcome) → o ≡ onward s (item_of l rec) img
       → cond (is_stored o.answer) (store_of (reader_of own s) (read_of l).«data» (read_of l).parsed) [] ≡ stores_with own (length img) s (item_of l rec)
   unfolding stores_with answer_for
   store_one s l img rec p o e =
@@ -111,8 +111,8 @@ module _ (own : ℕ) where
 
 pub data AfterRecords (own : ℕ) (s : State) (l img : List ℕ) : LineOutcome → Type 0 where
   refused : {o : LineOutcome} → is_failure o.answer ≡ true → AfterRecords own s l img o
-  went : {o : LineOutcome} (rec : Record) → (read_of l).parsed ≡ Good rec → s.size + length l ≤ 4194304 → Goes s (item_of l rec) s.place → AfterRecords own s l img o
-  last : {o : LineOutcome} (rec : Record) → (read_of l).parsed ≡ Good rec → s.size + length l ≤ 4194304 → s.place ≡ between → rec.kind ≡ 1
+  went : {o : LineOutcome} (rec : Record) → (read_of l).parsed ≡ Ok rec → s.size + length l ≤ 4194304 → Goes s (item_of l rec) s.place → AfterRecords own s l img o
+  last : {o : LineOutcome} (rec : Record) → (read_of l).parsed ≡ Ok rec → s.size + length l ≤ 4194304 → s.place ≡ between → rec.kind ≡ 1
       → length (item_of l rec).bytes ≡ 0 → s.data_seen 0x9900 ≡ true → s.data_seen 0x9903 ≡ true → o.answer ≡ answer.Ended → AfterRecords own s l img o
 
 not_ended : (p : Place) → reader_state_of p ≡ state.Ended → ⊥
@@ -128,14 +128,14 @@ not_failed (body b) f e = let z : ◌≡◌ {A = ℕ} 0 1 = cc in omega arith
 not_failed (padded b) f e = let z : ◌≡◌ {A = ℕ} 0 1 = cc in omega arith
 
 module _ (own : ℕ) (s : State) (l img : List ℕ) (y : Ready (reader_of own s) img) where
-  outcome_viewed : (rec : Record) → (read_of l).parsed ≡ Good rec → s.size + length l ≤ 4194304 → {t : Effect} → EffectCase s (item_of l rec) s.place t
+  outcome_viewed : (rec : Record) → (read_of l).parsed ≡ Ok rec → s.size + length l ≤ 4194304 → {t : Result Effect Answer} → EffectCase s (item_of l rec) s.place t
       → AfterRecords own s l img (effect_outcome (reader_of own s) rec (read_of l).«data» (s.size + length l) img t)
   unfolding effect_outcome
   outcome_viewed rec p m (fails a f) = refused f
   outcome_viewed rec p m (goes g) = went rec p m g
   outcome_viewed rec p m (ends q e k n a b) = last rec p m e k n a b refl
 
-  record_viewed : (rec : Record) → (read_of l).parsed ≡ Good rec → s.size + length l ≤ 4194304 → AfterRecords own s l img (line_of (reader_of own s) l img)
+  record_viewed : (rec : Record) → (read_of l).parsed ≡ Ok rec → s.size + length l ≤ 4194304 → AfterRecords own s l img (line_of (reader_of own s) l img)
   record_viewed rec p m =
       rw (line_made l rec p own s img y m s.place refl)
       (outcome_viewed rec p m (steps own s (item_of l rec) (word_at (read_of l).«data») (word_item l rec p) s.place))
@@ -172,7 +172,7 @@ abbrev pub RecordsOf : State → List (List ℕ) → Type 0
 RecordsOf s ls = (xs : List Item) × Says ls xs × Runs s xs
 
 module _ (own : ℕ) where
-  one_more : (s : State) (l img : List ℕ) (ls : List (List ℕ)) (rec : Record) (p : (read_of l).parsed ≡ Good rec) (m : s.size + length l ≤ 4194304)
+  one_more : (s : State) (l img : List ℕ) (ls : List (List ℕ)) (rec : Record) (p : (read_of l).parsed ≡ Ok rec) (m : s.size + length l ≤ 4194304)
       (g : Goes s (item_of l rec) s.place) → RecordsOf (after s (item_of l rec)) ls → RecordsOf s (l ∷ ls)
   one_more s l img ls rec p m g r = (item_of l rec ∷ r.0, line rec p r.1, step s (item_of l rec) s.place refl g m r.2)
 

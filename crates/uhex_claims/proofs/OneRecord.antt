@@ -13,7 +13,7 @@ use Rattle.laws.specs.Over.{over}
 use Rattle.laws.proofs.Tests.{split, clash, eqb_same, and_left, and_right}
 use Rattle.ihex_record.specs.Record.{read_of, word_of as word_at}
 use Rattle.ihex_record.specs.declared.Record.{Record}
-use Rattle.ihex_record.specs.declared.ParseResult.TheVariants as parsed
+use Rattle.std.specs.Prelude.{Some, Result, Ok, Err}
 use Rattle.ihex_record.proofs.Good.{good_len, length_data}
 use Rattle.uhex_grammar.specs.Answers.{number_of, is_failure}
 use Rattle.uhex_grammar.specs.Boards.{is_v1, is_v2, with_board}
@@ -24,7 +24,7 @@ use Rattle.uhex_grammar.specs.declared.ReaderState.{ReaderState}
 use Rattle.uhex_grammar.specs.declared.ReaderState.TheVariants.{Between, Opened, Inside, Padded, Ended}
 use Rattle.uhex_effects.specs.declared.Reader.{Reader}
 use Rattle.uhex_effects.specs.declared.Effect.{Effect}
-use Rattle.uhex_effects.specs.declared.Effect.TheVariants.{Fails, Passes, Stores, Ends}
+use Rattle.uhex_effects.specs.declared.Effect.TheVariants.{Passes, Stores, Ends}
 use Rattle.uhex_reader.specs.Reader.{with_state, with_upper, with_section, with_data, moved_to, given_of, effect_of}
 use Rattle.uhex_reader.specs.Line as unihex
 use Rattle.uhex_reader.specs.Line.{LineOutcome, line_outcome, storing, effect_outcome, record_outcome, parsed_line, live_line, halt_line, halt_of, line_of}
@@ -144,12 +144,18 @@ has_second s w =
 
 -- ---- what such a record comes to
 
+abbrev passes : Reader → Result Effect Answer
+passes r = Ok (Passes r)
+
+abbrev stores : Reader → Result Effect Answer
+stores r = Ok (Stores r)
+
 -- own data is stored, and any other record passes
-abbrev effect_for : ℕ → State → Item → Effect
-effect_for own s x = cond (gives_for s.place x own) (Stores (next_of own s x)) (Passes (next_of own s x))
+abbrev effect_for : ℕ → State → Item → Result Effect Answer
+effect_for own s x = cond (gives_for s.place x own) (stores (next_of own s x)) (passes (next_of own s x))
 
 -- what the reader makes of a record at a place, where w is its first two data bytes
-abbrev pub made : ℕ → State → Item → ℕ → Place → Effect
+abbrev pub made : ℕ → State → Item → ℕ → Place → Result Effect Answer
 made own s x w p = effect_of (reader_of own s) (role_of (reader_state_of p) x.kind (length x.bytes)) x.address (length x.bytes) w
 
 -- the reader, in another state, with another upper half
@@ -167,18 +173,18 @@ pub role_plain : (b len kind : ℕ) → kind ≢ 4 → kind ≢ 0 → kind ≢ 1
 unfolding role_of
 role_plain b len kind f z t = rw (ne_eqb kind 4 f, data_kind_lem b, not_data kind b z t)
 
-pub role_data : (b len kind : ℕ) → kind ≡ data_type_of b → role_of (Inside b) kind len ≡ Rattle.uhex_grammar.specs.declared.Role.TheVariants.Data b
+pub role_data : (b len kind : ℕ) → kind ≡ data_type_of b → role_of (Inside b) kind len ≡ Some (Rattle.uhex_grammar.specs.declared.Role.TheVariants.Data b)
 unfolding role_of
 role_data b len kind k =
     rw (ne_eqb kind 4 (data_not kind b 4 (λ f. omega arith) (λ f. omega arith) k), data_kind_lem b, eq-eqb kind (data_type_of b) k)
 
 module _ (own : ℕ) (s : State) (x : Item) (w : ℕ) (hw : 2 ≤ length x.bytes → w ≡ word_of x) where
-  passing : (p : Place) (q : Reader) → gives_for s.place x own ≡ false → made own s x w p ≡ Passes q → q ≡ next_of own s x
+  passing : (p : Place) (q : Reader) → gives_for s.place x own ≡ false → made own s x w p ≡ passes q → q ≡ next_of own s x
       → made own s x w p ≡ effect_for own s x
-  passing p q g h f = h ∙ ap Passes f ∙ choose (gives_for s.place x own) (Stores (next_of own s x)) (Passes (next_of own s x)) g
+  passing p q g h f = h ∙ ap passes f ∙ choose (gives_for s.place x own) (stores (next_of own s x)) (passes (next_of own s x)) g
 
   -- a record that names nothing and gives nothing
-  passing_plain : (p : Place) (t : ReaderState) (u : ℕ) → made own s x w p ≡ Passes (moved own s t u) → t ≡ reader_state_of (place_after s.place x)
+  passing_plain : (p : Place) (t : ReaderState) (u : ℕ) → made own s x w p ≡ passes (moved own s t u) → t ≡ reader_state_of (place_after s.place x)
       → u ≡ cond (eqb x.kind 4) (word_of x) s.upper → x.kind ≢ 10 → ((b : ℕ) → gives_for s.place x b ≡ false)
       → made own s x w p ≡ effect_for own s x
   passing_plain p t u h e f n g = passing p (moved own s t u) (g own) h (plain own s x t u e f n g)
@@ -232,7 +238,7 @@ module _ (own : ℕ) (s : State) (x : Item) (w : ℕ) (hw : 2 ≤ length x.bytes
         (ap (λ (y : Bool). s.data_seen 0x9900 || y) (g 0x9900))
         (ap (λ (y : Bool). s.data_seen 0x9903 || y) (g 0x9903))
 
-    made-data : x.address + length x.bytes ≤ 65536 → made own s x w (body b) ≡ given_of (reader_of own s) b (length x.bytes)
+    made-data : x.address + length x.bytes ≤ 65536 → made own s x w (body b) ≡ Ok (given_of (reader_of own s) b (length x.bytes))
     unfolding effect_of
     made-data m =
         rw (role_data b (length x.bytes) x.kind k, le-ltb 65536 (x.address + length x.bytes) m)
@@ -250,7 +256,7 @@ module _ (own : ℕ) (s : State) (x : Item) (w : ℕ) (hw : 2 ≤ length x.bytes
         split (eqb b own)
         (λ y.
         made-data m ∙ rw (z, y)
-        (ap Stores (given-next n) ∙ chosen (gives_for s.place x own) (Stores (next_of own s x)) (Passes (next_of own s x)) (g ∙ y)))
+        (ap stores (given-next n) ∙ chosen (gives_for s.place x own) (stores (next_of own s x)) (passes (next_of own s x)) (g ∙ y)))
         (λ v. passing (body b) (with_data (reader_of own s) b) (g ∙ v) (made-data m ∙ rw (z, v)) (given-next n)))
 
   -- 0C, 0E and 0B
@@ -293,11 +299,11 @@ module _ (own : ℕ) (s : State) (x : Item) (w : ℕ) (hw : 2 ≤ length x.bytes
 
 -- ---- every record at every place
 
-pub data EffectCase (s : State) (x : Item) (p : Place) : Effect → Type 0 where
-  fails : (a : Answer) → is_failure a ≡ true → EffectCase s x p (Fails a)
-  goes : {t : Effect} → Goes s x p → EffectCase s x p t
+pub data EffectCase (s : State) (x : Item) (p : Place) : Result Effect Answer → Type 0 where
+  fails : (a : Answer) → is_failure a ≡ true → EffectCase s x p (Err a)
+  goes : {t : Result Effect Answer} → Goes s x p → EffectCase s x p t
   ends : (q : Reader) → p ≡ between → x.kind ≡ 1 → length x.bytes ≡ 0 → s.data_seen 0x9900 ≡ true → s.data_seen 0x9903 ≡ true
-      → EffectCase s x p (Ends q)
+      → EffectCase s x p (Ok (Ends q))
 
 module _ (own : ℕ) (s : State) (x : Item) (w : ℕ) (hw : 2 ≤ length x.bytes → w ≡ word_of x) where
   abbrev n : ℕ
@@ -390,7 +396,7 @@ live r l img opened = refl
 live r l img (body b) = refl
 live r l img (padded b) = refl
 
-module _ (l : List ℕ) (rec : Record) (says : (read_of l).parsed ≡ parsed.Good rec) where
+module _ (l : List ℕ) (rec : Record) (says : (read_of l).parsed ≡ Ok rec) where
   pub len_item : length (item_of l rec).bytes ≡ rec.len
   len_item = length-take-le rec.len (read_of l).«data» (omega (arith, good_len l rec says, length_data l))
 
@@ -419,7 +425,7 @@ module _ (l : List ℕ) (rec : Record) (says : (read_of l).parsed ≡ parsed.Goo
         rw (ne_eqb rec.kind 4 (data_not rec.kind own 4 (λ f. omega arith) (λ f. omega arith) (eqb-true rec.kind (data_type_of own) k)))
 
     line-stored : gives_for s.place (item_of l rec) own ≡ true
-        → effect_outcome (reader_of own s) rec (read_of l).«data» (s.size + length l) img (Stores (next_of own s (item_of l rec)))
+        → effect_outcome (reader_of own s) rec (read_of l).«data» (s.size + length l) img (stores (next_of own s (item_of l rec)))
         ≡ line_outcome (reader_of own (after s (item_of l rec))) (answer_for own (length img) s (item_of l rec)) (image_with own s (item_of l rec) img)
     unfolding effect_outcome storing moved_to answer_for image_with
     line-stored g =
@@ -436,7 +442,7 @@ module _ (l : List ℕ) (rec : Record) (says : (read_of l).parsed ≡ parsed.Goo
         rw (g, z, f))
 
     line-passed : gives_for s.place (item_of l rec) own ≡ false
-        → effect_outcome (reader_of own s) rec (read_of l).«data» (s.size + length l) img (Passes (next_of own s (item_of l rec)))
+        → effect_outcome (reader_of own s) rec (read_of l).«data» (s.size + length l) img (passes (next_of own s (item_of l rec)))
         ≡ line_outcome (reader_of own (after s (item_of l rec))) (answer_for own (length img) s (item_of l rec)) (image_with own s (item_of l rec) img)
     unfolding effect_outcome moved_to answer_for image_with
     line-passed g = rw g
@@ -450,9 +456,9 @@ module _ (l : List ℕ) (rec : Record) (says : (read_of l).parsed ≡ parsed.Goo
         line_made p e ∙ ap (effect_outcome (reader_of own s) rec (read_of l).«data» (s.size + length l) img) made-it
         ∙ split (gives_for s.place x own)
         (λ y. ap (effect_outcome (reader_of own s) rec (read_of l).«data» (s.size + length l) img)
-        (sym (chosen (gives_for s.place x own) (Stores (next_of own s x)) (Passes (next_of own s x)) y)) ∙ line-stored y)
+        (sym (chosen (gives_for s.place x own) (stores (next_of own s x)) (passes (next_of own s x)) y)) ∙ line-stored y)
         (λ z. ap (effect_outcome (reader_of own s) rec (read_of l).«data» (s.size + length l) img)
-        (sym (choose (gives_for s.place x own) (Stores (next_of own s x)) (Passes (next_of own s x)) z)) ∙ line-passed z)
+        (sym (choose (gives_for s.place x own) (stores (next_of own s x)) (passes (next_of own s x)) z)) ∙ line-passed z)
 
     pub line_ends : s.place ≡ between → (item_of l rec).kind ≡ 1 → length (item_of l rec).bytes ≡ 0 → s.data_seen 0x9900 ≡ true → s.data_seen 0x9903 ≡ true
         → line_of (reader_of own s) l img ≡ line_outcome (moved_to (with_state (reader_of own s) Ended) (s.size + length l)) answer.Ended img

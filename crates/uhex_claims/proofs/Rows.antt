@@ -12,9 +12,9 @@ use borrow.Author.Tests.{lt-ltb, le-ltb, le-leb, lt-leb, ne_eqb, eqb-true, eqb-f
 use Rattle.laws.proofs.Tests.{split, both, clash, is_false, or_left, or_right}
 use Rattle.laws.proofs.TabLaws.{is_tab}
 use Rattle.ihex_record.specs.declared.Line.{Line}
-use Rattle.ihex_record.specs.declared.ParseResult.{ParseResult}
-use Rattle.ihex_record.specs.declared.ParseResult.TheVariants.{NoColon, BadShape, BadDigit, TooLong, BadLength, BadSum}
-use Rattle.ihex_record.specs.Record.{text_len, text_of, digit_of, all_digits, first_bad, bytes_of, data32, total, bad_shape, line_of_bytes, line_of_text, read_of, all_by, first_by, bytes_by}
+use Rattle.std.specs.Prelude.{Err}
+use Rattle.ihex_record.specs.declared.LineError.TheVariants.{NoColon, BadShape, BadDigit, TooLong, BadLength, BadSum}
+use Rattle.ihex_record.specs.Record.{ParseResult, text_len, text_of, digit_of, all_digits, first_bad, bytes_of, data32, total, bad_shape, line_of_bytes, line_of_text, read_of, all_by, first_by, bytes_by}
 use Rattle.ihex_record.proofs.Endings.{text_whole, text_lf, text_crlf}
 use Rattle.ihex_record.proofs.Checks.{is_no_colon, is_bad_shape, is_bad_digit, is_bytes, is_too_long, is_bad_length, is_bad_sum, is_good_lem}
 use Rattle.uhex_claims.specs.Rows.{Digit, decimal, upper, lower, Bytes, no_byte, byte, TextOf, unended, ended_lf, ended_crlf, sum_of, Shaped, Says, row_20, row_21, row_22, row_23, row_24, row_25, good, LineIsRead, EveryLineSays}
@@ -291,7 +291,7 @@ says_bytes : (cs bs : List ℕ) → Shaped (length (58 ∷ cs)) → Bytes cs bs 
 says_bytes cs [] s w = let k = bytes_length w in let l = s.least in absurd (omega arith)
 says_bytes cs (n ∷ bs) s w =
     split (ltb 32 n)
-    (λ y. (TooLong, [], row_23 s w (ltb-true 32 n y)))
+    (λ y. (Err TooLong, [], row_23 s w (ltb-true 32 n y)))
     (λ z.
     let m = ltb-false 32 n z in
     split (eqb (length (58 ∷ cs)) (11 + 2 * n))
@@ -299,8 +299,8 @@ says_bytes cs (n ∷ bs) s w =
     let e = eqb-true (length (58 ∷ cs)) (11 + 2 * n) y in
     split (eqb (sum_of (n ∷ bs) % 256) 0)
     (λ u. whole bs w (omega (arith, bytes_length w, e)) m (eqb-true _ 0 u))
-    (λ u. (BadSum, [], row_25 s w m e (eqb-false _ 0 u))))
-    (λ u. (BadLength, [], row_24 s w m (eqb-false (length (58 ∷ cs)) (11 + 2 * n) u))))
+    (λ u. (Err BadSum, [], row_25 s w m e (eqb-false _ 0 u))))
+    (λ u. (Err BadLength, [], row_24 s w m (eqb-false (length (58 ∷ cs)) (11 + 2 * n) u))))
   where
     whole : (bs : List ℕ) → Bytes cs (n ∷ bs) → length bs ≡ n + 4 → n ≤ 32 → sum_of (n ∷ bs) % 256 ≡ 0 → SaysSome (58 ∷ cs)
     whole [] w e m z = absurd (omega arith)
@@ -315,11 +315,11 @@ says_bytes cs (n ∷ bs) s w =
         (_, d, good {d = d} r.1 (subst (λ (q : List ℕ). Bytes cs q) f w) (omega (arith, k)) (subst (λ (q : List ℕ). sum_of q % 256 ≡ 0) f z))
 
 says_some : (t : List ℕ) → SaysSome t
-says_some [] = (NoColon, [], row_20 {t = []} (λ e. omega arith))
+says_some [] = (Err NoColon, [], row_20 {t = []} (λ e. omega arith))
 says_some (c ∷ cs) =
     split (eqb c 58)
     (λ y. subst (λ (q : ℕ). SaysSome (q ∷ cs)) (sym (eqb-true c 58 y)) after)
-    (λ z. (NoColon, [], row_20 {t = c ∷ cs} (eqb-false c 58 z)))
+    (λ z. (Err NoColon, [], row_20 {t = c ∷ cs} (eqb-false c 58 z)))
   where
     shaped : (n : ℕ) → bad_shape n ≡ false → Shaped n
     shaped n z =
@@ -330,12 +330,12 @@ says_some (c ∷ cs) =
     after : SaysSome (58 ∷ cs)
     after =
         split (bad_shape (length (58 ∷ cs)))
-        (λ y. (BadShape, [], row_21 (λ s. clash (bad_shape (length (58 ∷ cs))) y (shape_good (length (58 ∷ cs)) s))))
+        (λ y. (Err BadShape, [], row_21 (λ s. clash (bad_shape (length (58 ∷ cs))) y (shape_good (length (58 ∷ cs)) s))))
         (λ z.
         let s = shaped (length (58 ∷ cs)) z in
         ⊎_elim
         (λ (all : (i : ℕ) → i < length cs → IsDigit (get_or cs i 0)). let r = pairs cs (omega (arith, s.odd)) all in says_bytes cs r.0 s r.1)
-        (λ (b : FirstBad cs). (BadDigit (1 + b.place), [], row_22 b.place s b.within b.bad b.first))
+        (λ (b : FirstBad cs). (Err (BadDigit (1 + b.place)), [], row_22 b.place s b.within b.bad b.first))
         (digits_or cs))
 
 pub every_line_says : EveryLineSays

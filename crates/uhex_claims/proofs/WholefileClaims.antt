@@ -12,7 +12,7 @@ use Rattle.laws.proofs.Tests.{split, clash, and_left, and_right}
 use Rattle.laws.specs.Stores.{Store}
 use Rattle.ihex_record.specs.Record.{read_of}
 use Rattle.ihex_record.specs.declared.Record.{Record}
-use Rattle.ihex_record.specs.declared.ParseResult.TheVariants.{Good}
+use Rattle.std.specs.Prelude.{Ok}
 use Rattle.uhex_grammar.specs.Answers.{number_of, is_failure}
 use Rattle.uhex_grammar.specs.Boards.{is_v1, is_v2}
 use Rattle.uhex_grammar.specs.declared.Answer.{Answer}
@@ -66,7 +66,7 @@ record LastLine (ls : List (List ℕ)) (ys : List Item) (x : Item) : Type 0 wher
   pub rec : Record
   pub whole : ls ≡ before ++ (final ∷ [])
   pub says : Says before ys
-  pub good : (read_of final).parsed ≡ Good rec
+  pub good : (read_of final).parsed ≡ Ok rec
   pub item : x ≡ item_of final rec
 
 parted : (ys : List Item) (x : Item) {ls : List (List ℕ)} {xs : List Item} → xs ≡ ys ++ (x ∷ []) → Says ls xs → LastLine ls ys x

@@ -7,10 +7,9 @@ use native.Mathlib.Omega.{arith}
 use Rattle.laws.proofs.Tests.{clash}
 use Rattle.laws.specs.Over.{over}
 use Rattle.laws.specs.Tab.{from, tab}
-use Rattle.ihex_record.specs.Record.{text_len, text_of, digit_of, data32, total, line_of_bytes, line_of_text, read_of, on_record, all_by, bytes_by}
+use Rattle.ihex_record.specs.Record.{text_len, text_of, digit_of, data32, total, line_of_bytes, line_of_text, read_of, ParseResult, on_record, all_by, bytes_by}
 use Rattle.ihex_record.specs.Write.{bytes_text, record_text}
-use Rattle.ihex_record.specs.declared.ParseResult.{ParseResult}
-use Rattle.ihex_record.specs.declared.ParseResult.TheVariants as parsed
+use Rattle.std.specs.Prelude.{Ok, Err}
 use Rattle.uhex_claims.specs.Items.{Item, item_of, Says, none, line, size_of, item, line_for}
 use Rattle.uhex_claims.specs.Whole.{data_type_of, tail_ends, tail_0_c, body_ends, body_data, body_0_e, body_0_c, Body, IsSection, Sections, no_section, section, all_items, how_many, any_data, any_gives, File}
 use Rattle.uhex_claims.specs.State.{place_after, gives_for, names_for, answer_for, answers_for, image_with, image_for}
@@ -32,13 +31,8 @@ said (l ∷ ls) g = first (read_of l).parsed refl g (said ls)
   where
     first : (p : ParseResult) → (read_of l).parsed ≡ p → on_record false (λ rec. all_good ls) p ≡ true → (all_good ls ≡ true → Says ls (items_of ls))
         → Says (l ∷ ls) (on_record [] (λ rec. item_of l rec ∷ items_of ls) p)
-    first (parsed.Good rec) e g s = line rec e (s g)
-    first parsed.NoColon e g s = clash false g refl
-    first parsed.BadShape e g s = clash false g refl
-    first (parsed.BadDigit k) e g s = clash false g refl
-    first parsed.TooLong e g s = clash false g refl
-    first parsed.BadLength e g s = clash false g refl
-    first parsed.BadSum e g s = clash false g refl
+    first (Ok rec) e g s = line rec e (s g)
+    first (Err x) e g s = clash false g refl
 
 says_items : Says (map line_for items) items
 unfolding items all_items all_good items_of from tab text_len text_of all_by bytes_by data32 total line_of_bytes line_of_text read_of digit_of bytes_text record_text

@@ -1,9 +1,8 @@
 -- Which answer a line gets, by its record and the reader: the rows 18, 19, 26, 27, 29, 30 and 32 to 36, each by its condition, with types,
 -- lengths and boards as 01 has them. Row 28 is hexfile's `PassedOrRepeated`. Proved in proofs/Exact.antt. Assumes nothing.
-use Rattle.std.specs.Prelude.{ℕ, ◌+◌, ◌*◌, ◌%◌, ◌≤◌, ◌<◌, ◌≡◌, ◌⊎◌, ◌≢◌, ◌↔◌, true, cond, ◌&&◌, List, ltb, leb, eqb, length}
+use Rattle.std.specs.Prelude.{ℕ, ◌+◌, ◌*◌, ◌%◌, ◌≤◌, ◌<◌, ◌≡◌, ◌⊎◌, ◌≢◌, ◌↔◌, true, cond, ◌&&◌, List, ltb, leb, eqb, length, Ok}
 use Rattle.ihex_record.specs.Record.{read_of}
 use Rattle.ihex_record.specs.declared.Record.{Record}
-use Rattle.ihex_record.specs.declared.ParseResult.TheVariants.{Good}
 use Rattle.uhex_grammar.specs.declared.Answer.TheVariants as answer
 use Rattle.uhex_grammar.specs.declared.Failure.{Failure}
 use Rattle.uhex_grammar.specs.declared.ReaderState.{ReaderState}
@@ -40,7 +39,7 @@ TooLongExactly = EveryLine (λ r l img o. Open r img → (o.answer ≡ answer.Fi
 pub record Reading (r : Reader) (l img : List ℕ) (rec : Record) : Type 0 where
   pub reader : Open r img
   pub within : r.offset + length l ≤ 4194304
-  pub says : (read_of l).parsed ≡ Good rec
+  pub says : (read_of l).parsed ≡ Ok rec
 
 -- what holds of every such line, and of its answer
 abbrev pub EveryRecord : (Reader → ℕ → Record → Rattle.uhex_grammar.specs.declared.Answer.Answer → Type 0) → Type 0

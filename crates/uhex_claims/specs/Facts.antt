@@ -1,10 +1,10 @@
 -- What is claimed of one line, whatever the reader, the line and the image (01, "Universal Hex, a line at a time"). Proved in
 -- proofs/Facts.antt. Assumes nothing.
-use Rattle.std.specs.Prelude.{ℕ, ◌+◌, ◌≤◌, ◌<◌, ◌≡◌, ◌⊎◌, ◌≢◌, ◌↔◌, Bool, true, false, ◌&&◌, cond, List, leb, length, get_or, take}
+use Rattle.std.specs.Prelude.{ℕ, ◌+◌, ◌≤◌, ◌<◌, ◌≡◌, ◌⊎◌, ◌≢◌, ◌↔◌, Bool, true, false, ◌&&◌, cond, List, leb, length, get_or, take, Ok, Err}
 use Rattle.laws.specs.Over.{over}
 use Rattle.ihex_record.specs.Record.{word_of, text_of, is_digit, read_of}
 use Rattle.ihex_record.specs.declared.Record.{Record}
-use Rattle.ihex_record.specs.declared.ParseResult.TheVariants.{Good, BadDigit}
+use Rattle.ihex_record.specs.declared.LineError.TheVariants.{BadDigit}
 use Rattle.uhex_grammar.specs.Answers.{number_of, is_failure}
 use Rattle.uhex_grammar.specs.Boards.{has_board, both_boards}
 use Rattle.uhex_grammar.specs.Grammar.{data_kind}
@@ -97,12 +97,12 @@ unfoldable pub EndOrMissing : Type 0
 EndOrMissing =
     EveryLine
     (λ r l img o.
-    (rec : Record) → Ready r img → r.offset + length l ≤ 4194304 → (read_of l).parsed ≡ Good rec → r.state ≡ Between → rec.kind ≡ 1
+    (rec : Record) → Ready r img → r.offset + length l ≤ 4194304 → (read_of l).parsed ≡ Ok rec → r.state ≡ Between → rec.kind ≡ 1
     → rec.len ≡ 0 → o.answer ≡ cond (both_boards r.data_seen) answer.Ended answer.MissingBoard)
 
 -- a line's record is, after a section's opening 04, an "0A with at least 2 data bytes, the first two naming the board" b
 pub record NamesBoard (r : Reader) (l : List ℕ) (rec : Record) (b : ℕ) : Type 0 where
-  pub says : (read_of l).parsed ≡ Good rec
+  pub says : (read_of l).parsed ≡ Ok rec
   pub opened : r.state ≡ Opened
   pub kind : rec.kind ≡ 10
   pub some : 2 ≤ rec.len
@@ -120,7 +120,7 @@ PassedOrRepeated =
 
 -- a line's record is own data of at least one byte, wholly in the image
 pub record OwnData (r : Reader) (l img : List ℕ) (rec : Record) : Type 0 where
-  pub says : (read_of l).parsed ≡ Good rec
+  pub says : (read_of l).parsed ≡ Ok rec
   pub section : r.state ≡ Inside r.own
   pub kind : rec.kind ≡ data_kind r.own
   pub some : 1 ≤ rec.len
@@ -164,14 +164,14 @@ pub record FirstBadAt (t : List ℕ) (p : ℕ) : Type 0 where
 
 -- the position of a line that row 22 refuses; its text is a part of the line from its start on
 unfoldable pub BadDigitAt : Type 0
-BadDigitAt = (l : List ℕ) (p : ℕ) → (read_of l).parsed ≡ BadDigit p → FirstBadAt (text_of l) p
+BadDigitAt = (l : List ℕ) (p : ℕ) → (read_of l).parsed ≡ Err (BadDigit p) → FirstBadAt (text_of l) p
 
 -- such a line, to a reader that reads on and within the limit, fails it with that position
 unfoldable pub BadDigitAnswered : Type 0
 BadDigitAnswered =
     EveryLine
     (λ r l img o.
-    (p : ℕ) → Ready r img → reads_on r.state ≡ true → r.offset + length l ≤ 4194304 → (read_of l).parsed ≡ BadDigit p
+    (p : ℕ) → Ready r img → reads_on r.state ≡ true → r.offset + length l ≤ 4194304 → (read_of l).parsed ≡ Err (BadDigit p)
     → o ≡ failing r (answer.BadDigit p) img)
 
 -- "one handed in with 22 and a position outside 1 to 520 is 18" (02)

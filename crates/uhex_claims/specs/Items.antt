@@ -1,9 +1,8 @@
 -- What lines say, as numbers: each record's type, address field and data, and how long its line is. Assumes nothing.
-use Rattle.std.specs.Prelude.{ℕ, ◌+◌, ◌*◌, ◌≡◌, List, [], ◌∷◌, ◌++◌, length, get_or, take}
+use Rattle.std.specs.Prelude.{ℕ, ◌+◌, ◌*◌, ◌≡◌, List, [], ◌∷◌, ◌++◌, length, get_or, take, Ok}
 use Rattle.ihex_record.specs.Record.{read_of}
 use Rattle.ihex_record.specs.Write.{record_text}
 use Rattle.ihex_record.specs.declared.Record.{Record}
-use Rattle.ihex_record.specs.declared.ParseResult.TheVariants.{Good}
 
 -- a record with its data, and the bytes of its line "as handed, ending included"
 pub record Item : Type 0 where
@@ -20,7 +19,7 @@ item_of l rec =
 -- each line passes rows 20 to 25, and the items are what the lines say
 pub data Says : List (List ℕ) → List Item → Type 0 where
   none : Says [] []
-  line : {l : List ℕ} {ls : List (List ℕ)} {xs : List Item} (rec : Record) → (read_of l).parsed ≡ Good rec → Says ls xs
+  line : {l : List ℕ} {ls : List (List ℕ)} {xs : List Item} (rec : Record) → (read_of l).parsed ≡ Ok rec → Says ls xs
       → Says (l ∷ ls) (item_of l rec ∷ xs)
 
 -- the bytes of all the lines

@@ -1,9 +1,8 @@
 -- Lists of lines: each line gets the reader that the last one handed back, and the image as that one left it. Assumes nothing.
 use Rattle.std.specs.Prelude.{ℕ, ◌+◌, Bool, true, false, cond, ◌&&◌, ◌||◌, List, [], ◌∷◌, ◌++◌, leb, eqb, take}
 use Rattle.laws.specs.Stores.{Store}
-use Rattle.ihex_record.specs.Record.{on_record, word_of, read_of}
+use Rattle.ihex_record.specs.Record.{ParseResult, on_record, word_of, read_of}
 use Rattle.ihex_record.specs.declared.Line.{Line}
-use Rattle.ihex_record.specs.declared.ParseResult.{ParseResult}
 use Rattle.uhex_grammar.specs.Answers.{number_of}
 use Rattle.uhex_grammar.specs.Grammar.{is_extended_linear, is_block_start, data_kind}
 use Rattle.uhex_grammar.specs.declared.Answer.{Answer}

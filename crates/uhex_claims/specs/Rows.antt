@@ -1,9 +1,8 @@
 -- Rows 20 to 25 in numbers (01, "Universal Hex, a line at a time"; 02, L12): what a line's characters say, each row by its own condition. None of the
 -- definitions that the code meets stands on the side of the words. Proved in proofs/Rows.antt. Assumes nothing.
-use Rattle.std.specs.Prelude.{ℕ, ◌+◌, ◌-◌, ◌*◌, ◌%◌, ◌<◌, ◌≤◌, ◌≡◌, ◌≢◌, List, [], ◌∷◌, ◌++◌, length, get_or, replicate}
-use Rattle.ihex_record.specs.declared.ParseResult.{ParseResult}
-use Rattle.ihex_record.specs.declared.ParseResult.TheVariants.{Good, NoColon, BadShape, BadDigit, TooLong, BadLength, BadSum}
-use Rattle.ihex_record.specs.Record.{read_of}
+use Rattle.std.specs.Prelude.{ℕ, ◌+◌, ◌-◌, ◌*◌, ◌%◌, ◌<◌, ◌≤◌, ◌≡◌, ◌≢◌, List, [], ◌∷◌, ◌++◌, length, get_or, replicate, Ok, Err}
+use Rattle.ihex_record.specs.declared.LineError.TheVariants.{NoColon, BadShape, BadDigit, TooLong, BadLength, BadSum}
+use Rattle.ihex_record.specs.Record.{ParseResult, read_of}
 
 -- ---- characters
 
@@ -39,22 +38,22 @@ pub record Shaped (n : ℕ) : Type 0 where
 -- what a text says: a refusal, or a record with its data; b are its bytes, of which the first is "the length field"
 pub data Says : List ℕ → ParseResult → List ℕ → Type 0 where
   -- "empty or not beginning with ':'"
-  row_20 : {t : List ℕ} → get_or t 0 0 ≢ 58 → Says t NoColon []
-  row_21 : {cs : List ℕ} → (Shaped (length (58 ∷ cs)) → ⊥) → Says (58 ∷ cs) BadShape []
+  row_20 : {t : List ℕ} → get_or t 0 0 ≢ 58 → Says t (Err NoColon) []
+  row_21 : {cs : List ℕ} → (Shaped (length (58 ∷ cs)) → ⊥) → Says (58 ∷ cs) (Err BadShape) []
   -- "the position of the first bad character, counted from 0 at the colon" (L12)
   row_22 : {cs : List ℕ} (p : ℕ) → Shaped (length (58 ∷ cs)) → p < length cs → ((v : ℕ) → Digit (get_or cs p 0) v → ⊥)
-      → ((i : ℕ) → i < p → (v : ℕ) × Digit (get_or cs i 0) v) → Says (58 ∷ cs) (BadDigit (1 + p)) []
+      → ((i : ℕ) → i < p → (v : ℕ) × Digit (get_or cs i 0) v) → Says (58 ∷ cs) (Err (BadDigit (1 + p))) []
   -- "the length field is over 32"
-  row_23 : {cs bs : List ℕ} {n : ℕ} → Shaped (length (58 ∷ cs)) → Bytes cs (n ∷ bs) → 32 < n → Says (58 ∷ cs) TooLong []
+  row_23 : {cs bs : List ℕ} {n : ℕ} → Shaped (length (58 ∷ cs)) → Bytes cs (n ∷ bs) → 32 < n → Says (58 ∷ cs) (Err TooLong) []
   -- "characters aren't 11 + 2 x the length field"
-  row_24 : {cs bs : List ℕ} {n : ℕ} → Shaped (length (58 ∷ cs)) → Bytes cs (n ∷ bs) → n ≤ 32 → length (58 ∷ cs) ≢ 11 + 2 * n → Says (58 ∷ cs) BadLength []
+  row_24 : {cs bs : List ℕ} {n : ℕ} → Shaped (length (58 ∷ cs)) → Bytes cs (n ∷ bs) → n ≤ 32 → length (58 ∷ cs) ≢ 11 + 2 * n → Says (58 ∷ cs) (Err BadLength) []
   -- "the sum of all its bytes, kept to eight bits, is not zero"
   row_25 : {cs bs : List ℕ} {n : ℕ} → Shaped (length (58 ∷ cs)) → Bytes cs (n ∷ bs) → n ≤ 32 → length (58 ∷ cs) ≡ 11 + 2 * n → sum_of (n ∷ bs) % 256 ≢ 0
-      → Says (58 ∷ cs) BadSum []
+      → Says (58 ∷ cs) (Err BadSum) []
   -- a record: length, address (high first), type, data, checksum
   good : {cs d : List ℕ} {high low kind : ℕ} (check : ℕ) → Bytes cs (length d ∷ high ∷ low ∷ kind ∷ d ++ (check ∷ [])) → length d ≤ 32
       → sum_of (length d ∷ high ∷ low ∷ kind ∷ d ++ (check ∷ [])) % 256 ≡ 0
-      → Says (58 ∷ cs) (Good (record { kind = kind; address = 256 * high + low; len = length d })) d
+      → Says (58 ∷ cs) (Ok (record { kind = kind; address = 256 * high + low; len = length d })) d
 
 -- ---- the claims
 

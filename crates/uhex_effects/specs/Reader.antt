@@ -1,15 +1,16 @@
 -- The reader, and what a good record does to it (01, "Universal Hex, a line at a time", rows 18 and 26 to 30). Assumes nothing.
-use Rattle.std.specs.Prelude.{ℕ, ◌+◌, ◌%◌, Bool, false, ◌||◌, not, cond, ltb, eqb}
+use Rattle.std.specs.Prelude.{ℕ, ◌+◌, ◌%◌, Bool, false, ◌||◌, not, cond, ltb, eqb, Option, Some, None, Result, Ok, Err}
 use Rattle.uhex_grammar.specs.Answers.{is_kept}
 use Rattle.uhex_grammar.specs.Boards.{is_v1, is_v2, no_boards, has_board, with_board, both_boards}
+use Rattle.uhex_grammar.specs.declared.Answer.{Answer}
 use Rattle.uhex_grammar.specs.declared.Answer.TheVariants.{OutOfPlace, Unaligned, Repeated, Crosses, MissingBoard}
 use Rattle.uhex_grammar.specs.declared.ReaderState.{ReaderState}
 use Rattle.uhex_grammar.specs.declared.ReaderState.TheVariants.{Between, Opened, Inside, Padded, Ended, Failed}
 use Rattle.uhex_grammar.specs.declared.Role.{Role}
-use Rattle.uhex_grammar.specs.declared.Role.TheVariants.{Opening, Naming, Address, Data, Padding, Other, Closing, Ending, Refused}
+use Rattle.uhex_grammar.specs.declared.Role.TheVariants.{Opening, Naming, Address, Data, Padding, Other, Closing, Ending}
 use Rattle.uhex_effects.specs.declared.Reader.{Reader}
 use Rattle.uhex_effects.specs.declared.Effect.{Effect}
-use Rattle.uhex_effects.specs.declared.Effect.TheVariants.{Fails, Passes, Stores, Ends}
+use Rattle.uhex_effects.specs.declared.Effect.TheVariants.{Passes, Stores, Ends}
 
 -- "a fresh hex reader stands before the first section"
 abbrev pub fresh_of : ℕ → Reader
@@ -67,15 +68,15 @@ given_of r board len =
 
 -- row 26 refuses what the grammar does not allow; row 27 an opening 04 "at an offset that is no multiple of 512"; row 28 "a second V1 or
 -- V2 section"; row 29 data "with address field + length over 65,536"; row 30 "01 before V1 and V2 each gave a data byte"
-unfoldable pub effect_of : Reader → Role → ℕ → ℕ → ℕ → Effect
-effect_of r Opening address len word =
-    cond (not (eqb (r.offset % 512) 0)) (Fails Unaligned) (Passes (with_state (with_upper r word) Opened))
-effect_of r Naming address len word =
-    cond (has_board r.sections_seen word) (Fails Repeated) (Passes (with_state (with_section r word) (Inside word)))
-effect_of r Address address len word = Passes (with_upper r word)
-effect_of r (Data board) address len word = cond (ltb 65536 (address + len)) (Fails Crosses) (given_of r board len)
-effect_of r (Padding board) address len word = Passes (with_state r (Padded board))
-effect_of r Other address len word = Passes r
-effect_of r Closing address len word = Passes (with_state r Between)
-effect_of r Ending address len word = cond (both_boards r.data_seen) (Ends (with_state r Ended)) (Fails MissingBoard)
-effect_of r Refused address len word = Fails OutOfPlace
+unfoldable pub effect_of : Reader → Option Role → ℕ → ℕ → ℕ → Result Effect Answer
+effect_of r (Some Opening) address len word =
+    cond (not (eqb (r.offset % 512) 0)) (Err Unaligned) (Ok (Passes (with_state (with_upper r word) Opened)))
+effect_of r (Some Naming) address len word =
+    cond (has_board r.sections_seen word) (Err Repeated) (Ok (Passes (with_state (with_section r word) (Inside word))))
+effect_of r (Some Address) address len word = Ok (Passes (with_upper r word))
+effect_of r (Some (Data board)) address len word = cond (ltb 65536 (address + len)) (Err Crosses) (Ok (given_of r board len))
+effect_of r (Some (Padding board)) address len word = Ok (Passes (with_state r (Padded board)))
+effect_of r (Some Other) address len word = Ok (Passes r)
+effect_of r (Some Closing) address len word = Ok (Passes (with_state r Between))
+effect_of r (Some Ending) address len word = cond (both_boards r.data_seen) (Ok (Ends (with_state r Ended))) (Err MissingBoard)
+effect_of r None address len word = Err OutOfPlace

@@ -1,5 +1,5 @@
 // What a data record does to a reader of Universal Hex.
-ghost use Rattle.std.specs.Prelude.{◌≡◌};
+ghost use Rattle.std.specs.Prelude.{◌≡◌, Some};
 ghost use Rattle.uhex_grammar.specs.declared.Role.TheVariants.{Data};
 ghost use Rattle.uhex_effects.specs.Reader.{given_of, effect_of};
 
@@ -7,6 +7,7 @@ use crate::{Effect, Reader};
 use uhex_grammar::Answer;
 
 // Data of a board.
+#[tactic(auto, unfolding(crate::specs::Reader::given_of))]
 fn given(reader: Reader, board: u16, len: u8) -> Effect
     ensures { result ≡ given_of reader board len }
 {
@@ -20,11 +21,12 @@ fn given(reader: Reader, board: u16, len: u8) -> Effect
 }
 
 // A data record of a board.
-pub fn data(reader: Reader, board: u16, address: u16, len: u8) -> Effect
-    ensures { result ≡ effect_of reader (Data board) address len 0 }
+#[tactic(auto, unfolding(crate::specs::Reader::effect_of))]
+pub fn data(reader: Reader, board: u16, address: u16, len: u8) -> Result<Effect, Answer>
+    ensures { result ≡ effect_of reader (Some (Data board)) address len 0 }
 {
     if Reader::REACH < address as usize + len as usize {
-        return Effect::Fails(Answer::Crosses);
+        return Err(Answer::Crosses);
     }
-    given(reader, board, len)
+    Ok(given(reader, board, len))
 }

@@ -9,7 +9,7 @@ pub mod record_effect;
 ghost use Rattle.std.specs.Prelude.{◌≡◌};
 ghost use Rattle.uhex_effects.specs.Reader.{fresh_of, with_state, with_upper, with_section, with_data, moved_to};
 
-use uhex_grammar::{Answer, Boards, ReaderState};
+use uhex_grammar::{Boards, ReaderState};
 
 // A reader: its own board, the bytes of the file read so far, where it stands, the latest 04's two bytes, which of V1 and V2 had a
 // section, and which gave a data byte.
@@ -23,10 +23,9 @@ pub struct Reader {
     pub data_seen: Boards,
 }
 
-// What a good record does: it fails, passes, is own data to store, or ends the file.
+// What a good record that is not refused does: it passes, is own data to store, or ends the file.
 #[derive(Clone, Copy)]
 pub enum Effect {
-    Fails(Answer),
     Passes(Reader),
     Stores(Reader),
     Ends(Reader),
@@ -54,48 +53,44 @@ impl Reader {
         }
     }
 
+    #[tactic(auto, unfolding(crate::specs::Reader::with_state))]
     pub fn with_state(self, state: ReaderState) -> Reader
         ensures { result ≡ with_state self state }
     {
-        let sections_seen = self.sections_seen;
-        let data_seen = self.data_seen;
+        Reader { state, ..self }
+    }
+
+    #[tactic(auto, unfolding(crate::specs::Reader::with_upper))]
+    pub fn with_upper(self, upper: u16) -> Reader
+        ensures { result ≡ with_upper self upper }
+    {
+        Reader { upper, ..self }
+    }
+
+    #[tactic(auto, unfolding(crate::specs::Reader::with_section))]
+    pub fn with_section(self, board: u16) -> Reader
+        ensures { result ≡ with_section self board }
+    {
         Reader {
-            own: self.own,
-            offset: self.offset,
-            state,
-            upper: self.upper,
-            sections_seen,
-            data_seen,
+            sections_seen: self.sections_seen.with(board),
+            ..self
         }
     }
 
-    pub fn with_upper(mut self, upper: u16) -> Reader
-        ensures { result ≡ with_upper self upper }
-    {
-        self.upper = upper;
-        self
-    }
-
-    pub fn with_section(mut self, board: u16) -> Reader
-        ensures { result ≡ with_section self board }
-    {
-        let sections_seen = self.sections_seen;
-        self.sections_seen = sections_seen.with(board);
-        self
-    }
-
-    pub fn with_data(mut self, board: u16) -> Reader
+    #[tactic(auto, unfolding(crate::specs::Reader::with_data))]
+    pub fn with_data(self, board: u16) -> Reader
         ensures { result ≡ with_data self board }
     {
-        let data_seen = self.data_seen;
-        self.data_seen = data_seen.with(board);
-        self
+        Reader {
+            data_seen: self.data_seen.with(board),
+            ..self
+        }
     }
 
-    pub fn moved_to(mut self, offset: u32) -> Reader
+    #[tactic(auto, unfolding(crate::specs::Reader::moved_to))]
+    pub fn moved_to(self, offset: u32) -> Reader
         ensures { result ≡ moved_to self offset }
     {
-        self.offset = offset;
-        self
+        Reader { offset, ..self }
     }
 }

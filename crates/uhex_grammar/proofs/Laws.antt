@@ -6,21 +6,21 @@ use mathlib.Core.Logic.{◌≢◌, ◌⊎◌, ⊎_elim}
 use lib.Dec.{leb}
 use borrow.Author.Tests.{le-leb, lt-leb}
 use Rattle.laws.proofs.Tests.{split, and_left}
-use Rattle.ihex_record.specs.Record.{parsed_number}
-use Rattle.ihex_record.specs.declared.ParseResult.{ParseResult}
-use Rattle.ihex_record.specs.declared.ParseResult.TheVariants as parsed
+use Rattle.std.specs.Prelude.{Ok, Err}
+use Rattle.ihex_record.specs.Record.{ParseResult, parsed_number}
+use Rattle.ihex_record.specs.declared.LineError.TheVariants as error
 use Rattle.uhex_grammar.specs.Answers.{number_of, is_failure, bad_position, is_kept, refusal_of}
 use Rattle.uhex_grammar.specs.declared.Answer.{Answer}
 use Rattle.uhex_grammar.specs.declared.Answer.TheVariants.{BadDigit}
 
 pub refusal_number : (p : ParseResult) → parsed_number p ≢ 0 → number_of (refusal_of p) ≡ parsed_number p
-refusal_number parsed.NoColon n = refl
-refusal_number parsed.BadShape n = refl
-refusal_number (parsed.BadDigit p) n = refl
-refusal_number parsed.TooLong n = refl
-refusal_number parsed.BadLength n = refl
-refusal_number parsed.BadSum n = refl
-refusal_number (parsed.Good rec) n = absurd (n refl)
+refusal_number (Err error.NoColon) n = refl
+refusal_number (Err error.BadShape) n = refl
+refusal_number (Err (error.BadDigit p)) n = refl
+refusal_number (Err error.TooLong) n = refl
+refusal_number (Err error.BadLength) n = refl
+refusal_number (Err error.BadSum) n = refl
+refusal_number (Ok rec) n = absurd (n refl)
 
 -- ---- a failure that may be remembered
 

@@ -1,7 +1,7 @@
 -- The answers to a line (01, "Universal Hex, a line at a time"). Assumes nothing.
-use Rattle.std.specs.Prelude.{ℕ, Bool, ◌&&◌, ◌||◌, not, leb, eqb}
-use Rattle.ihex_record.specs.declared.ParseResult.{ParseResult}
-use Rattle.ihex_record.specs.declared.ParseResult.TheVariants as parsed
+use Rattle.std.specs.Prelude.{ℕ, Bool, ◌&&◌, ◌||◌, not, leb, eqb, Ok, Err}
+use Rattle.ihex_record.specs.Record.{ParseResult}
+use Rattle.ihex_record.specs.declared.LineError.TheVariants as error
 use Rattle.uhex_grammar.specs.declared.Answer.{Answer}
 use Rattle.uhex_grammar.specs.declared.Answer.TheVariants.{BadReader, BadImage, NoColon, BadShape, BadDigit, TooLong, BadLength, BadSum, OutOfPlace, Unaligned, Repeated, Crosses, MissingBoard, AfterEnd, Outside, Stored, Passed, Ended, FileTooLong}
 
@@ -63,10 +63,10 @@ is_kept a = is_failure a && not (bad_position a)
 
 -- the answers of rows 20 to 25; a good record gets none of them, and nothing asks for its
 abbrev pub refusal_of : ParseResult → Answer
-refusal_of parsed.NoColon = NoColon
-refusal_of parsed.BadShape = BadShape
-refusal_of (parsed.BadDigit p) = BadDigit p
-refusal_of parsed.TooLong = TooLong
-refusal_of parsed.BadLength = BadLength
-refusal_of parsed.BadSum = BadSum
-refusal_of (parsed.Good rec) = NoColon
+refusal_of (Err error.NoColon) = NoColon
+refusal_of (Err error.BadShape) = BadShape
+refusal_of (Err (error.BadDigit p)) = BadDigit p
+refusal_of (Err error.TooLong) = TooLong
+refusal_of (Err error.BadLength) = BadLength
+refusal_of (Err error.BadSum) = BadSum
+refusal_of (Ok rec) = NoColon

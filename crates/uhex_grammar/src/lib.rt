@@ -3,11 +3,11 @@
 
 pub mod roles;
 
-ghost use Rattle.std.specs.Prelude.{◌≡◌};
+ghost use Rattle.std.specs.Prelude.{◌≡◌, Err};
 ghost use Rattle.uhex_grammar.specs.Answers.{number_of, position_of, is_failure, is_kept, refusal_of};
 ghost use Rattle.uhex_grammar.specs.Boards.{no_boards, has_board, with_board, both_boards};
 
-use ihex_record::ParseResult;
+use ihex_record::LineError;
 
 // The answers to a line, by their numbers from 18 to 36. The names are 01's.
 #[derive(Clone, Copy)]
@@ -35,6 +35,7 @@ pub enum Answer {
 }
 
 // What a failed reader remembers.
+// Kept, contract: claims name a failure's `answer` (`BadPosition`, `FailedRepeats`), so it stays a struct of one field.
 #[derive(Clone, Copy)]
 pub struct Failure {
     pub answer: Answer,
@@ -59,7 +60,7 @@ pub enum ReaderState {
     Failed(Failure),
 }
 
-// What a record is where the reader stands.
+// What a record is where the reader stands, if it is allowed there.
 #[derive(Clone, Copy)]
 pub enum Role {
     // the 04 that opens a section
@@ -78,11 +79,10 @@ pub enum Role {
     Closing,
     // the 01 that ends the file
     Ending,
-    // not allowed there
-    Refused,
 }
 
 impl Boards {
+    // Kept, contract: numbers and no enum: a section may name any board (`place_after`, `OtherSectionsPass`).
     pub const V1: u16 = 0x9900;
 
     pub const V2: u16 = 0x9903;
@@ -103,6 +103,7 @@ impl Boards {
     }
 
     // These and a further one; a board that is neither adds nothing.
+    #[tactic(auto, unfolding(crate::specs::Boards::with_board))]
     pub fn with(self, board: u16) -> Boards
         ensures { result ≡ with_board self board }
     {
@@ -151,25 +152,8 @@ impl Answer {
         ensures { result ≡ position_of self }
     {
         match self {
-            Answer::BadReader => 0,
-            Answer::BadImage => 0,
-            Answer::NoColon => 0,
-            Answer::BadShape => 0,
             Answer::BadDigit(position) => position,
-            Answer::TooLong => 0,
-            Answer::BadLength => 0,
-            Answer::BadSum => 0,
-            Answer::OutOfPlace => 0,
-            Answer::Unaligned => 0,
-            Answer::Repeated => 0,
-            Answer::Crosses => 0,
-            Answer::MissingBoard => 0,
-            Answer::AfterEnd => 0,
-            Answer::Outside => 0,
-            Answer::Stored => 0,
-            Answer::Passed => 0,
-            Answer::Ended => 0,
-            Answer::FileTooLong => 0,
+            _ => 0,
         }
     }
 
@@ -182,6 +166,7 @@ impl Answer {
     }
 
     // A failure that a reader may remember: a bad digit's position is 1 to 520.
+    #[tactic(auto, unfolding(crate::specs::Answers::is_kept))]
     pub fn is_kept(self) -> bool
         ensures { result ≡ is_kept self }
     {
@@ -192,17 +177,17 @@ impl Answer {
 }
 
 // The answer to a line whose text is refused.
-pub fn refusal(parsed: ParseResult) -> Answer
-    ensures value { result ≡ refusal_of parsed }
-    ensures number { number_of result ≡ number_of (refusal_of parsed) }
-{
-    match parsed {
-        ParseResult::Good(_) => Answer::NoColon,
-        ParseResult::NoColon => Answer::NoColon,
-        ParseResult::BadShape => Answer::BadShape,
-        ParseResult::BadDigit(position) => Answer::BadDigit(position),
-        ParseResult::TooLong => Answer::TooLong,
-        ParseResult::BadLength => Answer::BadLength,
-        ParseResult::BadSum => Answer::BadSum,
+impl From<LineError> for Answer {
+    ghost from_gives = { λ error answer. answer ≡ refusal_of (Err error) };
+
+    fn from(error: LineError) -> Answer {
+        match error {
+            LineError::NoColon => Answer::NoColon,
+            LineError::BadShape => Answer::BadShape,
+            LineError::BadDigit(position) => Answer::BadDigit(position),
+            LineError::TooLong => Answer::TooLong,
+            LineError::BadLength => Answer::BadLength,
+            LineError::BadSum => Answer::BadSum,
+        }
     }
 }

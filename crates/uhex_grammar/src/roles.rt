@@ -7,6 +7,7 @@ use crate::{Boards, ReaderState, Role};
 use ihex_record::Record;
 
 // The type of a data record in the section of a board.
+#[tactic(auto, unfolding(crate::specs::Grammar::data_kind))]
 fn data_kind(board: u16) -> u8
     ensures { result ≡ data_kind board }
 {
@@ -18,59 +19,64 @@ fn data_kind(board: u16) -> u8
 }
 
 // The records that may follow the first 0C of a section.
-fn after_padding(board: u16, kind: u8) -> Role
+#[tactic(auto, unfolding(crate::specs::Grammar::after_padding))]
+fn after_padding(board: u16, kind: u8) -> Option<Role>
     ensures { result ≡ after_padding board kind }
 {
     if kind == Record::PADDED_DATA {
-        return Role::Padding(board);
+        return Some(Role::Padding(board));
     }
     if kind == Record::OTHER_DATA {
-        return Role::Other;
+        return Some(Role::Other);
     }
     if kind == Record::BLOCK_END {
-        return Role::Closing;
+        return Some(Role::Closing);
     }
-    Role::Refused
+    None
 }
 
 // Between sections.
-fn between(kind: u8, len: u8) -> Role
+#[tactic(auto, unfolding(crate::specs::Grammar::role_of))]
+fn between(kind: u8, len: u8) -> Option<Role>
     ensures { result ≡ role_of Between kind len }
 {
     if (kind == Record::EXTENDED_LINEAR) & (len == 2) {
-        return Role::Opening;
+        return Some(Role::Opening);
     }
     if (kind == Record::END_OF_FILE) & (len == 0) {
-        return Role::Ending;
+        return Some(Role::Ending);
     }
-    Role::Refused
+    None
 }
 
 // After a section's opening 04.
-fn opened(kind: u8, len: u8) -> Role
+#[tactic(auto, unfolding(crate::specs::Grammar::role_of))]
+fn opened(kind: u8, len: u8) -> Option<Role>
     ensures { result ≡ role_of Opened kind len }
 {
     if (kind == Record::BLOCK_START) & (2 <= len) {
-        return Role::Naming;
+        return Some(Role::Naming);
     }
-    Role::Refused
+    None
 }
 
 // In the section of a board, before its first 0C.
-fn inside(board: u16, kind: u8, len: u8) -> Role
+#[tactic(auto, unfolding(crate::specs::Grammar::role_of))]
+fn inside(board: u16, kind: u8, len: u8) -> Option<Role>
     ensures { result ≡ role_of (Inside board) kind len }
 {
     if (kind == Record::EXTENDED_LINEAR) & (len == 2) {
-        return Role::Address;
+        return Some(Role::Address);
     }
     if kind == data_kind(board) {
-        return Role::Data(board);
+        return Some(Role::Data(board));
     }
     after_padding(board, kind)
 }
 
-// What a record of a type and a number of data bytes is where a reader stands.
-pub fn role_at(state: ReaderState, kind: u8, len: u8) -> Role
+// What a record of a type and a number of data bytes is where a reader stands; none where it is not allowed.
+#[tactic(auto, unfolding(crate::specs::Grammar::role_of))]
+pub fn role_at(state: ReaderState, kind: u8, len: u8) -> Option<Role>
     ensures { result ≡ role_of state kind len }
 {
     match state {
@@ -78,7 +84,6 @@ pub fn role_at(state: ReaderState, kind: u8, len: u8) -> Role
         ReaderState::Opened => opened(kind, len),
         ReaderState::Inside(board) => inside(board, kind, len),
         ReaderState::Padded(board) => after_padding(board, kind),
-        ReaderState::Ended => Role::Refused,
-        ReaderState::Failed(_) => Role::Refused,
+        ReaderState::Ended | ReaderState::Failed(_) => None,
     }
 }

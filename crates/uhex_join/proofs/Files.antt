@@ -4,6 +4,7 @@ use mathlib.Core.Bool.{true, false, ◌||◌}
 use mathlib.Core.List.{List, [], ◌∷◌, ◌++◌, flatten}
 use Prim.Native.Nat.{ℕ, ◌+◌, ◌≤◌}
 use native.Mathlib.Omega.{arith}
+use Rattle.std.specs.Prelude.{Result, Ok, Err}
 use lib.Dec.{ltb}
 use lib.ListN.{length, length-append}
 use borrow.Author.Tests.{ltb-false}
@@ -14,23 +15,19 @@ use Rattle.laws.specs.Stores.{Store}
 use Rattle.ihex_record.specs.Types.{end_of_file, data_type, custom_data}
 use Rattle.ihex_record.specs.Write.{record_line}
 use Rattle.uhex_grammar.specs.Grammar.{data_kind}
-use Rattle.uhex_grammar.specs.declared.Answer.{Answer}
 use Rattle.uhex_grammar.specs.declared.Answer.TheVariants.{FileTooLong}
 use Rattle.ihex_write.specs.Put.{put_line, put_lines}
 use Rattle.ihex_write.proofs.Line.{length_line}
 use Rattle.ihex_write.proofs.Lines.{put_one, put_append, put_fits, length_flatten}
-use Rattle.ihex_file.specs.declared.Verdict.{Verdict}
-use Rattle.ihex_file.specs.declared.Verdict.TheVariants.{Fine, Bad}
-use Rattle.ihex_file.specs.File.{verdict_of}
+use Rattle.ihex_file.specs.File.{Verdict, verdict_of}
 use Rattle.ihex_data.specs.declared.Body.{Body}
 use Rattle.ihex_data.specs.Pieces.{pieces_of}
 use Rattle.ihex_data.specs.Lines.{first_upper, data_length}
 use Rattle.ihex_data.specs.Scan.{body_of}
 use Rattle.uhex_join.specs.Section.{section_with}
-use Rattle.uhex_join.specs.declared.answers.JoinAnswer.{JoinAnswer}
-use Rattle.uhex_join.specs.declared.answers.JoinAnswer.TheVariants.{Written, Refused}
+use Rattle.uhex_join.specs.declared.answers.Refusal.{Refusal}
 use Rattle.uhex_join.specs.Text.{section_lines, section_size, file_lines, file_text}
-use Rattle.uhex_join.specs.Join.{join_call, join_number, refusal, refused_by, second_of, written_of, Fits, join_of}
+use Rattle.uhex_join.specs.Join.{Joined, JoinCall, join_call, join_number, refusal, refused_by, on_verdict, second_of, written_of, Fits, join_of}
 use Rattle.uhex_join.proofs.Sectioned.{as_written, length_section}
 
 -- ---- the file
@@ -99,20 +96,16 @@ module _ (r : Body) (s : List ℕ) (e : r ≡ body_of s) where
   unfolding body_of
   body_first = ap (λ (x : Body). x.first) e
 
-  pub body_length : r.len ≡ data_length (pieces_of s)
-  unfolding body_of
-  body_length = ap (λ (x : Body). x.len) e
-
 -- ---- whether it fits
 
 module _ (text out : List ℕ) (n : ℕ) (e : n ≡ length text) where
-  pub too_long : (ltb 4194304 n || ltb (length out) n) ≡ true → join_call (Refused (refusal 0 0 FileTooLong)) out ≡ written_of text out
+  pub too_long : (ltb 4194304 n || ltb (length out) n) ≡ true → join_call (Err (refusal 0 0 FileTooLong)) out ≡ written_of text out
   unfolding written_of
   too_long h = rw (← e, h) refl
 
-  pub written : {o : List ℕ} → (ltb 4194304 n || ltb (length out) n) ≡ false → o ≡ over out 0 text → join_call (Written n) o ≡ written_of text out
+  pub written : {o : List ℕ} → (ltb 4194304 n || ltb (length out) n) ≡ false → o ≡ over out 0 text → join_call (Ok n) o ≡ written_of text out
   unfolding written_of
-  written h f = rw (← e, h) (ap (join_call (Written n)) f)
+  written h f = rw (← e, h) (ap (join_call (Ok n)) f)
 
   pub fits_by : (ltb 4194304 n || ltb (length out) n) ≡ false → Fits text out
   fits_by h =
@@ -123,21 +116,40 @@ module _ (text out : List ℕ) (n : ℕ) (e : n ≡ length text) where
 
 -- ---- the call
 
+-- a board's file that is refused, and one that is fine
+verdict_bad : (board : ℕ) (v : Verdict) (out : List ℕ) (rest : JoinCall) (r : Refusal) → refused_by board v ≡ Err r
+    → on_verdict board v out rest ≡ join_call (Err r) out
+verdict_bad board (Ok u) out rest r e = absurd (let z : ◌≡◌ {A = ℕ} 0 1 = cc in omega arith)
+verdict_bad board (Err b) out rest r e =
+    let s : refusal board b.line b.answer ≡ r = cc in
+    ap (λ (x : Refusal). join_call (Err x) out) s
+
+verdict_fine : (board : ℕ) (v : Verdict) (out : List ℕ) (rest : JoinCall) (u : Unit {0}) → refused_by board v ≡ Ok u → on_verdict board v out rest ≡ rest
+verdict_fine board (Ok w) out rest u e = refl
+verdict_fine board (Err b) out rest u e = absurd (let z : ◌≡◌ {A = ℕ} 0 1 = cc in omega arith)
+
 module _ (a b out : List ℕ) where
-  pub second_bad : {v : Verdict} {k : ℕ} {x : Answer} {r : JoinAnswer} → v ≡ verdict_of b → v ≡ Bad k x → r ≡ refused_by 0x9903 v → join_call r out ≡ second_of a b out
-  second_bad e f g = rw (← e, f) (ap (λ (y : JoinAnswer). join_call y out) (g ∙ rw f refl))
-
-  pub second_fine : {v : Verdict} {r : JoinAnswer} {o : List ℕ} → v ≡ verdict_of b → v ≡ Fine → join_call r o ≡ written_of (file_text (pieces_of a) (pieces_of b)) out
-      → join_call r o ≡ second_of a b out
-  second_fine e f g = rw (← e, f) g
-
-  abbrev Joins : JoinAnswer → List ℕ → Type 0
+  abbrev Joins : Joined → List ℕ → Type 0
   Joins r o = numbered join_number (join_call r o) ≡ numbered join_number (join_of a b out)
 
-  pub joins_bad : {v : Verdict} {k : ℕ} {x : Answer} {r : JoinAnswer} → v ≡ verdict_of a → v ≡ Bad k x → r ≡ refused_by 0x9900 v → Joins r out
-  unfolding join_of
-  joins_bad e f g = ap (numbered join_number) (rw (← e, f) (ap (λ (y : JoinAnswer). join_call y out) (g ∙ rw f refl)))
+  module _ {v : Verdict} {x : Result (Unit {0}) Refusal} (e : v ≡ verdict_of a) (f : x ≡ refused_by 0x9900 v) where
+    pub first_bad : {r : Refusal} → x ≡ Err r → Joins (Err r) out
+    unfolding join_of
+    first_bad {r} h =
+        ap (numbered join_number) (sym (verdict_bad 0x9900 (verdict_of a) out (second_of a b out) r (rw (← e) (sym f ∙ h))))
 
-  pub joins_fine : {v : Verdict} {r : JoinAnswer} {o : List ℕ} → v ≡ verdict_of a → v ≡ Fine → join_call r o ≡ second_of a b out → Joins r o
-  unfolding join_of
-  joins_fine e f g = ap (numbered join_number) (rw (← e, f) g)
+    pub first_fine : {u : Unit {0}} → x ≡ Ok u → join_of a b out ≡ second_of a b out
+    unfolding join_of
+    first_fine {u} h = verdict_fine 0x9900 (verdict_of a) out (second_of a b out) u (rw (← e) (sym f ∙ h))
+
+  module _ (one : join_of a b out ≡ second_of a b out) {v : Verdict} {x : Result (Unit {0}) Refusal} (e : v ≡ verdict_of b) (f : x ≡ refused_by 0x9903 v) where
+    abbrev last : JoinCall
+    last = written_of (file_text (pieces_of a) (pieces_of b)) out
+
+    pub second_bad : {r : Refusal} → x ≡ Err r → Joins (Err r) out
+    second_bad {r} h =
+        ap (numbered join_number) (sym (one ∙ verdict_bad 0x9903 (verdict_of b) out last r (rw (← e) (sym f ∙ h))))
+
+    pub second_fine : {u : Unit {0}} {r : Joined} {o : List ℕ} → x ≡ Ok u → join_call r o ≡ last → Joins r o
+    second_fine {u} h w =
+        ap (numbered join_number) (w ∙ sym (one ∙ verdict_fine 0x9903 (verdict_of b) out last u (rw (← e) (sym f ∙ h))))

@@ -1,10 +1,9 @@
 -- What the call for one file from two returns, of 64 bits. Assumes nothing.
-use Rattle.std.specs.Prelude.{ℕ, ◌+◌, ◌*◌, cond}
+use Rattle.std.specs.Prelude.{ℕ, ◌+◌, ◌*◌, cond, Ok, Err}
 use Rattle.uhex_grammar.specs.Answers.{number_of, position_of}
 use Rattle.uhex_grammar.specs.Boards.{is_v1, is_v2}
 use Rattle.uhex_join.specs.declared.answers.Refusal.{Refusal}
-use Rattle.uhex_join.specs.declared.answers.JoinAnswer.{JoinAnswer}
-use Rattle.uhex_join.specs.declared.answers.JoinAnswer.TheVariants.{Written, Refused}
+use Rattle.uhex_join.specs.Answer.{Joined}
 
 -- 1 for V1, 2 for V2; 0 for neither, where the output is too long
 abbrev pub board_code : ℕ → ℕ
@@ -16,6 +15,6 @@ refusal_result r =
     number_of r.answer + (256 * position_of r.answer + (16777216 * board_code r.board + 4294967296 * r.line))
 
 -- a file that is written: 0 in bits 0 to 31, and how many bytes from bit 32 on
-abbrev pub joined_result : JoinAnswer → ℕ
-joined_result (Written n) = 4294967296 * n
-joined_result (Refused r) = refusal_result r
+abbrev pub joined_result : Joined → ℕ
+joined_result (Ok n) = 4294967296 * n
+joined_result (Err r) = refusal_result r

@@ -1,9 +1,9 @@
-// What comes of two Intel Hex files that are made one: the answer, and it as one number.
+// What comes of two Intel Hex files that are made one: the number of bytes that are written, or a refusal; and it as one number.
 ghost use Rattle.std.specs.Prelude.{◌≡◌, ◌≤◌};
 ghost use Rattle.uhex_join.specs.Answer.{joined_number, refused_by};
 ghost use Rattle.uhex_join.specs.Result.{board_code, refusal_result, joined_result};
 
-use ihex_file::Verdict;
+use ihex_file::BadLine;
 use uhex_grammar::{Answer, Boards};
 
 // Why nothing is written: the board whose file is refused, the line's index from 0 (for a missing 01 and for 30 the number of its lines), and
@@ -15,38 +15,26 @@ pub struct Refusal {
     pub answer: Answer,
 }
 
-// What comes of two files: the number of bytes that are written, or a refusal.
-#[derive(Clone, Copy)]
-pub enum JoinAnswer {
-    Written(u32),
-    Refused(Refusal),
-}
-
-impl JoinAnswer {
-    // The number of a refusal, and 0 for a file that is written.
-    pub fn number(self) -> u8
-        ensures { result ≡ joined_number self }
-    {
-        match self {
-            JoinAnswer::Written(_) => 0,
-            JoinAnswer::Refused(refusal) => {
-                let answer = refusal.answer;
-                answer.number()
-            }
-        }
+// The number of a refusal, and 0 for a file that is written.
+pub fn number(joined: Result<u32, Refusal>) -> u8
+    ensures { result ≡ joined_number joined }
+{
+    match joined {
+        Ok(_) => 0,
+        Err(refusal) => refusal.answer.number(),
     }
 }
 
-// The refusal of a board's file; nothing asks for it of one that is fine.
-pub fn refused(board: u16, verdict: Verdict) -> JoinAnswer
+// A board's file, or its refusal.
+pub fn refused(board: u16, verdict: Result<(), BadLine>) -> Result<(), Refusal>
     ensures { result ≡ refused_by board verdict }
 {
     match verdict {
-        Verdict::Fine => JoinAnswer::Written(0),
-        Verdict::Bad(line, answer) => JoinAnswer::Refused(Refusal {
+        Ok(()) => Ok(()),
+        Err(bad) => Err(Refusal {
             board,
-            line,
-            answer,
+            line: bad.line,
+            answer: bad.answer,
         }),
     }
 }
@@ -56,16 +44,15 @@ fn board_code(board: u16) -> u64
     ensures value { result ≡ board_code board }
     ensures small { result ≤ 2 }
 {
-    if board == Boards::V1 {
-        return 1;
+    match board {
+        Boards::V1 => 1,
+        Boards::V2 => 2,
+        _ => 0,
     }
-    if board == Boards::V2 {
-        return 2;
-    }
-    0
 }
 
 // A refusal as one number.
+#[tactic(auto, unfolding(crate::specs::Result::refusal_result))]
 fn refusal_result(refusal: Refusal) -> u64
     ensures { result ≡ refusal_result refusal }
 {
@@ -78,11 +65,11 @@ fn refusal_result(refusal: Refusal) -> u64
 }
 
 // What comes of two files as one number.
-pub fn joined_result(joined: JoinAnswer) -> u64
+pub fn joined_result(joined: Result<u32, Refusal>) -> u64
     ensures { result ≡ joined_result joined }
 {
     match joined {
-        JoinAnswer::Written(n) => 4294967296 * (n as u64),
-        JoinAnswer::Refused(refusal) => refusal_result(refusal),
+        Ok(n) => 4294967296 * (n as u64),
+        Err(refusal) => refusal_result(refusal),
     }
 }

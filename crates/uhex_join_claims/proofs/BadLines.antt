@@ -1,6 +1,6 @@
 -- A plain file's refusal names its first bad line, and the first row that the line fails. Assumes nothing.
 use Prim.Native.Nat.{ℕ, suc, ◌+◌, ◌≤◌}
-use mathlib.Core.Path.{◌≡◌, refl, sym, subst, ◌∙◌}
+use mathlib.Core.Path.{◌≡◌, refl, sym, ap, subst, ◌∙◌}
 use mathlib.Core.Logic.{◌≢◌}
 use mathlib.Core.Bool.{true, false}
 use mathlib.Core.List.{List, [], ◌∷◌, ◌++◌, append_assoc, append-nil}
@@ -12,9 +12,9 @@ use Rattle.uhex_claims.specs.Items.{Item, item_of, Says, none, line, size_of}
 use Rattle.uhex_claims.proofs.Runs.{size_append}
 use Rattle.uhex_claims.proofs.WholefileClaims.{says_append}
 use Rattle.ihex_file.specs.declared.Plain.{Plain}
-use Rattle.ihex_file.specs.declared.Verdict.TheVariants.{Fine, Bad}
 use Rattle.ihex_file.specs.Line.{plain, fresh_plain, line_taken, taken_of}
-use Rattle.ihex_file.specs.File.{bad_of, next_of, lines_verdict}
+use Rattle.ihex_file.specs.declared.BadLine.{BadLine as Told}
+use Rattle.ihex_file.specs.File.{bad, fine, bad_of, next_of, lines_verdict}
 use Rattle.uhex_join_claims.specs.PlainFile.{Records, base_after}
 use Rattle.uhex_join_claims.specs.Refusals.{PlainType, Begun, nothing, more, BadLine, BadLines, bad_line, after_the_01, no_01}
 use Rattle.uhex_join_claims.proofs.PlainRead.{Went, Last, View, stops, goes, ends, line_view}
@@ -55,15 +55,17 @@ one_more p ks l b w =
       short = omega (arith, size_one xs x, b.size, w.fits);
     }
 
-pub bad_is : (k j : ℕ) (x y : Answer) → Bad k x ≡ Bad j y → (k ≡ j) × (x ≡ y)
-bad_is k j x y e = (cc, cc)
+pub bad_is : (k j : ℕ) (x y : Answer) → bad k x ≡ bad j y → (k ≡ j) × (x ≡ y)
+bad_is k j x y e =
+    let s : ◌≡◌ {A = Told} (record { line = k; answer = x }) (record { line = j; answer = y }) = cc in
+    (ap (λ (b : Told). b.line) s, ap (λ (b : Told). b.answer) s)
 
-not_bad : {A : Type 0} (j : ℕ) (x : Answer) → Fine ≡ Bad j x → A
+not_bad : {A : Type 0} (j : ℕ) (x : Answer) → fine ≡ bad j x → A
 not_bad j x e = absurd (let z : ◌≡◌ {A = ℕ} 0 1 = cc in omega arith)
 
 -- a line after the 01
 past_end : (p : Plain) (k j : ℕ) (x : Answer) (ks ls : List (List ℕ)) (xs : List Item) → p.ended ≡ true → Says ks xs → Records xs → size_of xs ≤ 4194304 → k ≡ length ks
-    → lines_verdict p k ls ≡ Bad j x → BadLines (ks ++ ls) j x
+    → lines_verdict p k ls ≡ bad j x → BadLines (ks ++ ls) j x
 unfolding lines_verdict taken_of line_taken
 past_end p k j x ks [] xs u s r m n e = not_bad j x (rw u at e)
 past_end p k j x ks (l ∷ ls) xs u s r m n e =
@@ -72,7 +74,7 @@ past_end p k j x ks (l ∷ ls) xs u s r m n e =
     (subst (λ (i : ℕ). BadLines (ks ++ (l ∷ ls)) i AfterEnd) (sym n ∙ f.0) (after_the_01 ks l ls xs refl s r (omega arith)))
 
 bad_lines : (ls : List (List ℕ)) (p : Plain) (k j : ℕ) (x : Answer) (ks : List (List ℕ)) → p.ended ≡ false → Before p ks → k ≡ length ks
-    → lines_verdict p k ls ≡ Bad j x → BadLines (ks ++ ls) j x
+    → lines_verdict p k ls ≡ bad j x → BadLines (ks ++ ls) j x
 unfolding lines_verdict
 bad_lines [] p k j x ks u b n e =
     let f = bad_is k j OutOfPlace x (rw u at e) in
@@ -88,7 +90,7 @@ bad_lines (l ∷ ls) p k j x ks u b n e = by-view (line_view p l u) (λ q m v w 
     ended-short w = omega (arith, size_one b.items (item_of l w.rec), b.size, w.fits)
 
     by-view : View p l (taken_of p l)
-        → ((q : Plain) (m : List (List ℕ)) → q.ended ≡ false → Before q m → suc k ≡ length m → lines_verdict q (suc k) ls ≡ Bad j x → BadLines (m ++ ls) j x)
+        → ((q : Plain) (m : List (List ℕ)) → q.ended ≡ false → Before q m → suc k ≡ length m → lines_verdict q (suc k) ls ≡ bad j x → BadLines (m ++ ls) j x)
         → BadLines (ks ++ (l ∷ ls)) j x
     by-view (stops f w) r =
         let g = bad_is k j (bad_of (taken_of p l)) x (rw f at e) in
@@ -105,5 +107,5 @@ bad_lines (l ∷ ls) p k j x ks u b n e = by-view (line_view p l u) (λ q m v w 
         (past_end (next_of p (taken_of p l)) (suc k) j x (ks ++ (l ∷ [])) ls (b.items ++ (y ∷ [])) w.next (says_append b.says (line w.rec w.says none))
         (b.extends (y ∷ []) w.ends) (ended-short w) longer (rw w.on at e))
 
-pub first_bad_lem : (ls : List (List ℕ)) (j : ℕ) (x : Answer) → lines_verdict fresh_plain 0 ls ≡ Bad j x → BadLines ls j x
+pub first_bad_lem : (ls : List (List ℕ)) (j : ℕ) (x : Answer) → lines_verdict fresh_plain 0 ls ≡ bad j x → BadLines ls j x
 first_bad_lem ls j x e = bad_lines ls fresh_plain 0 j x [] refl (none_before fresh_plain refl) refl e

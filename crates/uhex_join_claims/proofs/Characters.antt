@@ -12,7 +12,8 @@ use Rattle.laws.proofs.Laws.{any_all}
 use Rattle.ihex_record.specs.Record.{total}
 use Rattle.ihex_record.specs.Write.{digit_text, bytes_text, field_bytes, checksum, record_text, record_line, Bytes}
 use Rattle.ihex_record.specs.declared.Record.{Record}
-use Rattle.ihex_record.specs.declared.ParseResult.TheVariants.{Good}
+use Rattle.std.specs.Prelude.{Ok}
+use Rattle.ihex_record.specs.Record.{ParseResult}
 use Rattle.uhex_claims.specs.Items.{Item, item_of, item, Says, none, line}
 use Rattle.uhex_join_claims.proofs.Written.{Fits, Written, nothing, more}
 use Rattle.uhex_join_claims.proofs.Claims.{output, part_a, part_b, lines_there, says_there}
@@ -73,7 +74,7 @@ written_lines (more {k} {a} {d} f w) = next_line (line_of k a d f) (written_line
 says_one : {ls : List (List ℕ)} {xs ys : List Item} → Says ls xs → Says ls ys → xs ≡ ys
 says_one none none = refl
 says_one (line {l} {ls} {xs} rec e p) (line rec2 f q) =
-    let g : Good rec ≡ Good rec2 = sym e ∙ f in
+    let g : ◌≡◌ {A = ParseResult} (Ok rec) (Ok rec2) = sym e ∙ f in
     let h : rec ≡ rec2 = cc in
     ap (λ (r : Record). item_of l r ∷ xs) h ∙ ap (λ (z : List Item). item_of l rec2 ∷ z) (says_one p q)
 

@@ -4,6 +4,7 @@ use mathlib.Core.Path.{◌≡◌, refl, sym, ap, subst, ◌∙◌}
 use mathlib.Core.Bool.{cond, ◌||◌}
 use mathlib.Core.List.{List, [], ◌∷◌, ◌++◌, map, flatten}
 use native.Mathlib.Omega.{arith}
+use Rattle.std.specs.Prelude.{Ok, Err}
 use lib.Dec.{eqb, ltb}
 use lib.ListN.{length, get_or, take, drop}
 use lib.Seq.{take-append_seam, drop-append_seam}
@@ -25,14 +26,11 @@ use Rattle.uhex_claims.specs.WholefileClaims as wholefile
 use Rattle.uhex_claims.specs.WholefileClaims.{FileEnd, FileEnds, Acceptance}
 use Rattle.uhex_claims.proofs.WholefileClaims.{file_ends}
 use Rattle.uhex_claims.proofs.OneRecord.{answer_most, answer_least}
-use Rattle.ihex_file.specs.declared.Verdict.{Verdict}
-use Rattle.ihex_file.specs.declared.Verdict.TheVariants.{Fine, Bad}
-use Rattle.ihex_file.specs.File.{verdict_of}
-use Rattle.uhex_join.specs.declared.answers.JoinAnswer.TheVariants.{Written, Refused}
+use Rattle.ihex_file.specs.File.{Verdict, bad, fine, verdict_of}
 use Rattle.uhex_join.specs.declared.answers.Refusal.{Refusal}
 use Rattle.ihex_data.specs.Pieces.{pieces_of}
 use Rattle.uhex_join.specs.Text.{file_lines, file_text}
-use Rattle.uhex_join.specs.Join.{JoinCall, join_call, refusal, on_verdict, written_of, join_of}
+use Rattle.uhex_join.specs.Join.{Joined, JoinCall, join_call, refusal, on_verdict, written_of, join_of}
 use Rattle.uhex_join_claims.specs.Refusals.{BadText}
 use Rattle.uhex_join_claims.specs.PlainFile.{WithData, PlainPieces, within}
 use Rattle.uhex_join_claims.specs.PlainfileClaims.{TextRefusedOnce}
@@ -49,17 +47,17 @@ use Rattle.uhex_join_claims.proofs.Cuts.{cuts_byte, cuts_one}
 -- ---- an output
 
 pub record OutputFacts (a b out : List ℕ) (n : ℕ) : Type 0 where
-  pub fine_a : verdict_of a ≡ Fine
-  pub fine_b : verdict_of b ≡ Fine
+  pub fine_a : verdict_of a ≡ fine
+  pub fine_b : verdict_of b ≡ fine
   pub size : n ≡ length (file_text (pieces_of a) (pieces_of b))
   pub most : n ≤ 4194304
   pub fits : n ≤ length out
   pub room : (join_of a b out).room ≡ over out 0 (file_text (pieces_of a) (pieces_of b))
 
-not_written : {A : Type 0} (r : Refusal) (n : ℕ) → Refused r ≡ Written n → A
+not_written : {A : Type 0} (r : Refusal) (n : ℕ) → Err r ≡ Ok n → A
 not_written r n e = absurd (let z : ◌≡◌ {A = ℕ} 0 1 = cc in omega arith)
 
-written_is : (t out : List ℕ) (n : ℕ) → (written_of t out).answer ≡ Written n → (n ≡ length t) × (length t ≤ 4194304) × (length t ≤ length out) × ((written_of t out).room ≡ over out 0 t)
+written_is : (t out : List ℕ) (n : ℕ) → (written_of t out).answer ≡ Ok n → (n ≡ length t) × (length t ≤ 4194304) × (length t ≤ length out) × ((written_of t out).room ≡ over out 0 t)
 unfolding written_of
 written_is t out n e =
     let p = ltb 4194304 (length t) in
@@ -67,30 +65,30 @@ written_is t out n e =
     split (p || q)
     (λ y. not_written _ n (rw y at e))
     (λ z.
-    let f : Written (length t) ≡ Written n = rw z at e in
+    let f : Ok (length t) ≡ Ok n = rw z at e in
     let g : n ≡ length t = cc in
     rw z (g, ltb-false 4194304 (length t) (or_left p q z), ltb-false (length out) (length t) (or_right p q z), refl))
 
-too_long : (t out : List ℕ) (r : Refusal) → (written_of t out).answer ≡ Refused r → r ≡ refusal 0 0 FileTooLong
+too_long : (t out : List ℕ) (r : Refusal) → (written_of t out).answer ≡ Err r → r ≡ refusal 0 0 FileTooLong
 unfolding written_of
 too_long t out r e =
     split (ltb 4194304 (length t) || ltb (length out) (length t))
-    (λ y. let f : Refused (refusal 0 0 FileTooLong) ≡ Refused r = rw y at e in cc)
+    (λ y. let f : Err (refusal 0 0 FileTooLong) ≡ Err r = rw y at e in cc)
     (λ z. not_written r (length t) (sym (rw z at e)))
 
-written_there : (t out : List ℕ) → length t ≤ 4194304 → length t ≤ length out → written_of t out ≡ join_call (Written (length t)) (over out 0 t)
+written_there : (t out : List ℕ) → length t ≤ 4194304 → length t ≤ length out → written_of t out ≡ join_call (Ok (length t)) (over out 0 t)
 unfolding written_of
 written_there t out m f = rw (le-ltb 4194304 (length t) m, le-ltb (length out) (length t) f)
 
-pub output : (a b out : List ℕ) (n : ℕ) → (join_of a b out).answer ≡ Written n → OutputFacts a b out n
+pub output : (a b out : List ℕ) (n : ℕ) → (join_of a b out).answer ≡ Ok n → OutputFacts a b out n
 unfolding join_of
 output a b out n e = by-verdicts (verdict_of a) (verdict_of b) refl refl e
   where
     by-verdicts : (v w : Verdict) → verdict_of a ≡ v → verdict_of b ≡ w
-        → (on_verdict 0x9900 v out (on_verdict 0x9903 w out (written_of (file_text (pieces_of a) (pieces_of b)) out))).answer ≡ Written n → OutputFacts a b out n
-    by-verdicts (Bad k x) w f g e = not_written _ n e
-    by-verdicts Fine (Bad k x) f g e = not_written _ n e
-    by-verdicts Fine Fine f g e =
+        → (on_verdict 0x9900 v out (on_verdict 0x9903 w out (written_of (file_text (pieces_of a) (pieces_of b)) out))).answer ≡ Ok n → OutputFacts a b out n
+    by-verdicts (Err v) w f g e = not_written _ n e
+    by-verdicts (Ok u) (Err w) f g e = not_written _ n e
+    by-verdicts (Ok u) (Ok v) f g e =
         let w = written_is (file_text (pieces_of a) (pieces_of b)) out n e in
         record { fine_a = f; fine_b = g; size = w.0; most = omega (arith, w.0, w.1); fits = omega (arith, w.0, w.2); room = rw (f, g) w.3 }
 
@@ -216,11 +214,11 @@ pub refusal_writes_nothing : RefusalWritesNothing
 unfolding RefusalWritesNothing join_of written_of
 refusal_writes_nothing a b out r e = by-verdicts (verdict_of a) (verdict_of b) e
   where
-    by-verdicts : (v w : Verdict) → (on_verdict 0x9900 v out (on_verdict 0x9903 w out (written_of (file_text (pieces_of a) (pieces_of b)) out))).answer ≡ Refused r
+    by-verdicts : (v w : Verdict) → (on_verdict 0x9900 v out (on_verdict 0x9903 w out (written_of (file_text (pieces_of a) (pieces_of b)) out))).answer ≡ Err r
         → (on_verdict 0x9900 v out (on_verdict 0x9903 w out (written_of (file_text (pieces_of a) (pieces_of b)) out))).room ≡ out
-    by-verdicts (Bad k x) w e = refl
-    by-verdicts Fine (Bad k x) e = refl
-    by-verdicts Fine Fine e =
+    by-verdicts (Err v) w e = refl
+    by-verdicts (Ok u) (Err w) e = refl
+    by-verdicts (Ok u) (Ok v) e =
         let t = file_text (pieces_of a) (pieces_of b) in
         split (ltb 4194304 (length t) || ltb (length out) (length t))
         (λ y. rw y)
@@ -249,12 +247,12 @@ fitting_is_written a b out ls x h =
     ∙ sym (written_map (file_written p.pieces q.pieces)) in
     let n : length (flatten ls) ≡ length t = ap (λ (z : List (List ℕ)). length (flatten z)) e in
     let m : length t ≤ 4194304 = omega (arith, said_length x.says, x.file.short) in
-    rw (fa, fb) (ap (λ (z : JoinCall). z.answer) (written_there t out m (omega arith)) ∙ ap Written (sym n))
+    rw (fa, fb) (ap (λ (z : JoinCall). z.answer) (written_there t out m (omega arith)) ∙ ap Ok (sym n))
 
-not_fine : {A : Type 0} (s : List ℕ) (k : ℕ) (x : Answer) → verdict_of s ≡ Bad k x → WithData s → A
+not_fine : {A : Type 0} (s : List ℕ) (k : ℕ) (x : Answer) → verdict_of s ≡ bad k x → WithData s → A
 not_fine s k x e w = absurd (let f = data_fine s w in let z : ◌≡◌ {A = ℕ} 0 1 = cc in omega arith)
 
-is_refused_lem : (x y : Refusal) → Refused x ≡ Refused y → x ≡ y
+is_refused_lem : (x y : Refusal) → ◌≡◌ {A = Joined} (Err x) (Err y) → x ≡ y
 is_refused_lem x y e = cc
 
 pub refused_by_board : RefusedByBoard
@@ -265,14 +263,18 @@ refused_by_board a b out r e = by-verdicts (verdict_of a) (verdict_of b) refl re
     t = file_text (pieces_of a) (pieces_of b)
 
     by-verdicts : (v w : Verdict) → verdict_of a ≡ v → verdict_of b ≡ w
-        → (on_verdict 0x9900 v out (on_verdict 0x9903 w out (written_of (file_text (pieces_of a) (pieces_of b)) out))).answer ≡ Refused r → RefusalCase a b r
-    by-verdicts (Bad k x) w f g e =
+        → (on_verdict 0x9900 v out (on_verdict 0x9903 w out (written_of (file_text (pieces_of a) (pieces_of b)) out))).answer ≡ Err r → RefusalCase a b r
+    by-verdicts (Err v) w f g e =
+        let k = v.line in
+        let x = v.answer in
         let h = is_refused_lem (refusal 0x9900 k x) r e in
         of_v1 (sym (ap (λ (z : Refusal). z.board) h)) (subst (λ (z : Refusal). BadText a z.line z.answer) h (bad_text a k x f)) (not_fine a k x f)
-    by-verdicts Fine (Bad k x) f g e =
+    by-verdicts (Ok u) (Err w) f g e =
+        let k = w.line in
+        let x = w.answer in
         let h = is_refused_lem (refusal 0x9903 k x) r e in
         of_v2 (sym (ap (λ (z : Refusal). z.board) h)) (fine_data a f) (subst (λ (z : Refusal). BadText b z.line z.answer) h (bad_text b k x g)) (not_fine b k x g)
-    by-verdicts Fine Fine f g e =
+    by-verdicts (Ok u) (Ok v) f g e =
         let w = too_long t out r e in
         of_both (ap (λ (z : Refusal). z.board) w) (ap (λ (z : Refusal). z.line) w) (ap (λ (z : Refusal). z.answer) w) (fine_data a f) (fine_data b g)
 

@@ -14,7 +14,7 @@ use Rattle.laws.proofs.StoresLaws.{latest_append}
 use Rattle.ihex_record.specs.Record.{text_of, bytes_of, read_of}
 use Rattle.ihex_record.specs.Write.{Bytes}
 use Rattle.ihex_record.specs.declared.Record.{Record}
-use Rattle.ihex_record.specs.declared.ParseResult.TheVariants.{Good}
+use Rattle.std.specs.Prelude.{Ok}
 use Rattle.ihex_record.proofs.Good.{says, good_len, good_data, bytes_small}
 use Rattle.uhex_claims.specs.Items.{Item, item_of, Says, line, word_of}
 use Rattle.uhex_claims.specs.Items
@@ -32,7 +32,7 @@ bytes_drop : (n : ℕ) (d : List ℕ) → Bytes d → Bytes (drop n d)
 bytes_drop n d f i l = rw (get_or-drop n d i 0) (f (n + i) (omega (arith, length-drop n d)))
 
 -- what a good line's record holds are bytes
-item_bytes_lem : (l : List ℕ) (rec : Record) → (read_of l).parsed ≡ Good rec → Bytes (item_of l rec).bytes
+item_bytes_lem : (l : List ℕ) (rec : Record) → (read_of l).parsed ≡ Ok rec → Bytes (item_of l rec).bytes
 unfolding read_of
 item_bytes_lem l rec e =
     let b = bytes_of (drop 1 (text_of l)) in

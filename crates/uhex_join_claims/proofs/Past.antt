@@ -8,14 +8,13 @@ use native.Mathlib.Omega.{arith}
 use lib.ListN.{length}
 use Rattle.ihex_record.specs.Record.{read_of}
 use Rattle.ihex_record.specs.declared.Record.{Record}
-use Rattle.ihex_record.specs.declared.ParseResult.TheVariants.{Good}
+use Rattle.std.specs.Prelude.{Ok}
 use Rattle.uhex_grammar.specs.declared.Answer.{Answer}
 use Rattle.uhex_claims.specs.Items.{Item, item_of, Says, none, line, size_of}
 use Rattle.uhex_claims.proofs.OneRecord.{len_item}
 use Rattle.ihex_file.specs.declared.Plain.{Plain}
-use Rattle.ihex_file.specs.declared.Verdict.TheVariants.{Fine, Bad}
 use Rattle.ihex_file.specs.Line.{plain, fresh_plain, line_taken, taken_of}
-use Rattle.ihex_file.specs.File.{goes_on, next_of, lines_verdict}
+use Rattle.ihex_file.specs.File.{bad, fine, goes_on, next_of, lines_verdict}
 use Rattle.uhex_join_claims.specs.PlainFile.{Records, ending_01, data_00, segment_02, start_03, linear_04, start_05, base_after}
 use Rattle.uhex_join_claims.specs.Refusals.{PlainType, type_00, type_01, type_02, type_03, type_04, type_05, Begun, nothing, more, BadLine, row_36, rows_20_to_25, row_26, row_29, BadLines, bad_line, after_the_01, no_01}
 use Rattle.uhex_join_claims.proofs.PlainRead.{View, stops, goes, ends, line_view}
@@ -23,7 +22,7 @@ use Rattle.uhex_join_claims.proofs.PlainRead.{View, stops, goes, ends, line_view
 -- ---- a line
 
 -- one that says a record of a plain file, within the limit, is not bad
-good_line : (size : ℕ) (l : List ℕ) {x : Answer} (rec : Record) → (read_of l).parsed ≡ Good rec → size + length l ≤ 4194304
+good_line : (size : ℕ) (l : List ℕ) {x : Answer} (rec : Record) → (read_of l).parsed ≡ Ok rec → size + length l ≤ 4194304
     → PlainType rec.kind (length (item_of l rec).bytes) → (rec.kind ≡ 0 → rec.address + length (item_of l rec).bytes ≤ 65536) → BadLine size l x → ⊥
 good_line size l rec e m t c (row_36 h) = omega arith
 good_line size l rec e m t c (rows_20_to_25 h f) = f rec e
@@ -38,7 +37,7 @@ good_line size l rec e m t c (row_29 h r f k n) =
     omega (arith, c (sym i ∙ k), len_item l rec e)
 
 -- a 00 of any length has its type
-not_00 : (l : List ℕ) (q r : Record) → (read_of l).parsed ≡ Good q → (read_of l).parsed ≡ Good r → (PlainType q.kind q.len → ⊥) → r.kind ≡ 0 → ⊥
+not_00 : (l : List ℕ) (q r : Record) → (read_of l).parsed ≡ Ok q → (read_of l).parsed ≡ Ok r → (PlainType q.kind q.len → ⊥) → r.kind ≡ 0 → ⊥
 not_00 l q r f g n k =
     let s : r ≡ q = cc in
     let i : q.kind ≡ 0 = ap (λ (z : Record). z.kind) (sym s) ∙ k in
@@ -86,12 +85,12 @@ no_lines none e = refl
 no_lines (line rec p t) e = absurd (let z : ◌≡◌ {A = ℕ} 0 1 = cc in omega arith)
 
 -- what is told of a bad line
-bad_told : (p : Plain) (k : ℕ) (l : List ℕ) (ls : List (List ℕ)) (x : Answer) → p.ended ≡ false → BadLine p.offset l x → lines_verdict p k (l ∷ ls) ≡ Bad k x
+bad_told : (p : Plain) (k : ℕ) (l : List ℕ) (ls : List (List ℕ)) (x : Answer) → p.ended ≡ false → BadLine p.offset l x → lines_verdict p k (l ∷ ls) ≡ bad k x
 unfolding lines_verdict
 bad_told p k l ls x u b = by-view (line_view p l u)
   where
-    by-view : View p l (taken_of p l) → lines_verdict p k (l ∷ ls) ≡ Bad k x
-    by-view (stops f w) = rw f (ap (Bad k) (bad_one p.offset l w b))
+    by-view : View p l (taken_of p l) → lines_verdict p k (l ∷ ls) ≡ bad k x
+    by-view (stops f w) = rw f (ap (bad k) (bad_one p.offset l w b))
     by-view (goes w) = absurd (good_line p.offset l w.rec w.says w.fits w.type w.inside b)
     by-view (ends w) = let a = first_allowed w.ends in absurd (good_line p.offset l w.rec w.says w.fits a.type a.inside b)
 
@@ -156,14 +155,14 @@ plain_past (line {l} {ls} {xs} rec e t) r p k u m = by-view (line_view p l u) (�
         let q = next_of p (taken_of p l) in
         (q, past_line p k l ls q q w.on refl (rw n (past_none q (suc k))), w.next)
 
-pub plain_fine : {ls : List (List ℕ)} {xs : List Item} → Says ls xs → Records xs → size_of xs ≤ 4194304 → lines_verdict fresh_plain 0 ls ≡ Fine
+pub plain_fine : {ls : List (List ℕ)} {xs : List Item} → Says ls xs → Records xs → size_of xs ≤ 4194304 → lines_verdict fresh_plain 0 ls ≡ fine
 unfolding lines_verdict
 plain_fine {ls} s r m =
     let z = plain_past s r fresh_plain 0 refl (omega arith) in
     ap (lines_verdict fresh_plain 0) (sym (append-nil ls)) ∙ z.1 [] (length ls) (omega arith) ∙ rw z.2
 
 -- what is told of lines with a bad one
-pub first_told : (ls : List (List ℕ)) (j : ℕ) (x : Answer) → BadLines ls j x → lines_verdict fresh_plain 0 ls ≡ Bad j x
+pub first_told : (ls : List (List ℕ)) (j : ℕ) (x : Answer) → BadLines ls j x → lines_verdict fresh_plain 0 ls ≡ bad j x
 unfolding lines_verdict taken_of line_taken
 first_told ls j x (bad_line ks l rest xs e s b m w) =
     let z = begun_past s b fresh_plain 0 refl (omega arith) in

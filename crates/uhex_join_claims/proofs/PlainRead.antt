@@ -5,35 +5,32 @@ use mathlib.Core.Logic.{◌≢◌}
 use mathlib.Core.Bool.{true, false, ◌||◌}
 use mathlib.Core.List.{List, [], ◌∷◌, ◌++◌}
 use native.Mathlib.Omega.{arith}
+use Rattle.std.specs.Prelude.{Err}
 use lib.Dec.{eqb, ltb}
 use lib.ListN.{length}
 use borrow.Author.Tests.{eqb-true, eqb-false, ne_eqb, le-leb, lt-leb, le-ltb, ltb-true, ltb-false}
 use Rattle.laws.proofs.Tests.{split, clash, and_left, and_right}
 use Rattle.laws.specs.Stores.{Store}
-use Rattle.ihex_record.specs.Record.{read_of, on_record, parsed_number, word_of as word_at}
+use Rattle.ihex_record.specs.Record.{ParseResult, read_of, on_record, word_of as word_at}
 use Rattle.ihex_record.specs.declared.Record.{Record}
-use Rattle.ihex_record.specs.declared.ParseResult.{ParseResult}
-use Rattle.ihex_record.specs.declared.ParseResult.TheVariants as parsed
+use Rattle.std.specs.Prelude.{Ok, Err}
 use Rattle.uhex_grammar.specs.Answers.{refusal_of}
 use Rattle.uhex_grammar.specs.declared.Answer.{Answer}
 use Rattle.uhex_grammar.specs.declared.Answer.TheVariants.{FileTooLong}
 use Rattle.uhex_claims.specs.Items.{Item, item_of, Says, none, line, size_of, word_of}
 use Rattle.uhex_claims.proofs.OneRecord.{len_item, word_item}
 use Rattle.ihex_file.specs.declared.Plain.{Plain}
-use Rattle.ihex_file.specs.declared.LineReading.{LineReading}
-use Rattle.ihex_file.specs.declared.LineReading.TheVariants.{Refused, Passed}
-use Rattle.ihex_file.specs.Line.{is_end, is_segment, is_linear, is_start, plain, moved_by, with_base, data_taken, record_taken, fields_taken, line_taken, taken_of}
-use Rattle.ihex_file.specs.declared.Verdict.TheVariants.{Fine, Bad}
-use Rattle.ihex_file.specs.File.{goes_on, bad_of, next_of, gives_of, records_from, lines_verdict}
+use Rattle.ihex_file.specs.Line.{Reading as TakenReading, passed, is_end, is_segment, is_linear, is_start, plain, moved_by, with_base, data_taken, record_taken, fields_taken, line_taken, taken_of}
+use Rattle.ihex_file.specs.File.{bad, fine, goes_on, bad_of, next_of, gives_of, records_from, lines_verdict}
 use Rattle.uhex_join_claims.specs.PlainFile.{Records, ending_01, data_00, segment_02, start_03, linear_04, start_05, base_after, data_at, data_from}
 use Rattle.uhex_join_claims.specs.Refusals.{PlainType, type_00, type_01, type_02, type_03, type_04, type_05, BadLine, row_36, rows_20_to_25, row_26, row_29}
 
 -- ---- a line
 
 -- one that is taken, before the 01
-pub record Went (p : Plain) (l : List ℕ) (t : LineReading) : Type 0 where
+pub record Went (p : Plain) (l : List ℕ) (t : TakenReading) : Type 0 where
   pub rec : Record
-  pub says : (read_of l).parsed ≡ parsed.Good rec
+  pub says : (read_of l).parsed ≡ Ok rec
   pub fits : p.offset + length l ≤ 4194304
   pub on : goes_on t ≡ true
   pub unlast : rec.kind ≢ 1
@@ -44,9 +41,9 @@ pub record Went (p : Plain) (l : List ℕ) (t : LineReading) : Type 0 where
   pub gives : gives_of l t ≡ data_at p.base (item_of l rec)
 
 -- the 01
-pub record Last (p : Plain) (l : List ℕ) (t : LineReading) : Type 0 where
+pub record Last (p : Plain) (l : List ℕ) (t : TakenReading) : Type 0 where
   pub rec : Record
-  pub says : (read_of l).parsed ≡ parsed.Good rec
+  pub says : (read_of l).parsed ≡ Ok rec
   pub fits : p.offset + length l ≤ 4194304
   pub on : goes_on t ≡ true
   pub kind : rec.kind ≡ 1
@@ -54,13 +51,13 @@ pub record Last (p : Plain) (l : List ℕ) (t : LineReading) : Type 0 where
   pub next : (next_of p t).ended ≡ true
   pub gives : gives_of l t ≡ data_at p.base (item_of l rec)
 
-pub data View (p : Plain) (l : List ℕ) (t : LineReading) : Type 0 where
+pub data View (p : Plain) (l : List ℕ) (t : TakenReading) : Type 0 where
   stops : goes_on t ≡ false → BadLine p.offset l (bad_of t) → View p l t
   goes : Went p l t → View p l t
   ends : Last p l t → View p l t
 
 module _ (p : Plain) (l : List ℕ) (unended : p.ended ≡ false) (fits : p.offset + length l ≤ 4194304) where
-  module _ (rec : Record) (says : (read_of l).parsed ≡ parsed.Good rec) where
+  module _ (rec : Record) (says : (read_of l).parsed ≡ Ok rec) where
     abbrev x : Item
     x = item_of l rec
 
@@ -104,7 +101,7 @@ module _ (p : Plain) (l : List ℕ) (unended : p.ended ≡ false) (fits : p.offs
 
     -- a record that sets what the address fields count from
     base-view : (k factor : ℕ) → rec.kind ≡ k → 1 < k → rec.len ≡ 2 → (factor * word_of x ≡ base_after p.base x)
-        → PlainType k 2 → ((xs : List Item) → Records xs → Records (x ∷ xs)) → View p l (Passed (with_base q (factor * word_at (read_of l).«data»)))
+        → PlainType k 2 → ((xs : List Item) → Records xs → Records (x ∷ xs)) → View p l (passed (with_base q (factor * word_at (read_of l).«data»)))
     base-view k factor e n m b t r =
         let w : word_at (read_of l).«data» ≡ word_of x = word_item l rec says (omega (arith, bytes_are)) in
         goes
@@ -165,7 +162,7 @@ module _ (p : Plain) (l : List ℕ) (unended : p.ended ≡ false) (fits : p.offs
         rw y (start-view m (and_left (eqb k 3 || eqb k 5) (eqb n 4) y)))
         (λ zs. rw zs (stops refl (row_26 fits rec says (untyped k n z0 z1 z2 z4 zs))))))))))))
       where
-        start-went : (k : ℕ) → rec.kind ≡ k → 2 < k → k ≢ 4 → PlainType rec.kind (length x.bytes) → ((xs : List Item) → Records xs → Records (x ∷ xs)) → View p l (Passed q)
+        start-went : (k : ℕ) → rec.kind ≡ k → 2 < k → k ≢ 4 → PlainType rec.kind (length x.bytes) → ((xs : List Item) → Records xs → Records (x ∷ xs)) → View p l (passed q)
         start-went k e a c t r =
             goes
             (record {
@@ -181,7 +178,7 @@ module _ (p : Plain) (l : List ℕ) (unended : p.ended ≡ false) (fits : p.offs
               gives = no_data (λ f. omega arith);
             })
 
-        start-view : length x.bytes ≡ 4 → eqb rec.kind 3 || eqb rec.kind 5 ≡ true → View p l (Passed q)
+        start-view : length x.bytes ≡ 4 → eqb rec.kind 3 || eqb rec.kind 5 ≡ true → View p l (passed q)
         start-view m y =
             split (eqb rec.kind 3)
             (λ t.
@@ -191,26 +188,21 @@ module _ (p : Plain) (l : List ℕ) (unended : p.ended ≡ false) (fits : p.offs
             let e : rec.kind ≡ 5 = eqb-true rec.kind 5 (rw f at y) in
             start-went 5 e (omega arith) (λ f. omega arith) (typed type_05 e m) (λ xs r. start_05 e m r))
 
-  unread : (r : ParseResult) → (read_of l).parsed ≡ r → ((rec : Record) → r ≢ parsed.Good rec) → View p l (Refused (refusal_of r))
+  unread : (r : ParseResult) → (read_of l).parsed ≡ r → ((rec : Record) → r ≢ Ok rec) → View p l (Err (refusal_of r))
   unread r e n =
       stops refl (subst (λ (z : ParseResult). BadLine p.offset l (refusal_of z)) e (rows_20_to_25 fits (λ rec f. n rec (sym e ∙ f))))
 
   parsed_view : (r : ParseResult) → (read_of l).parsed ≡ r
-      → View p l (on_record (Refused (refusal_of r)) (fields_taken (moved_by p (length l)) (word_at (read_of l).«data»)) r)
-  parsed_view (parsed.Good rec) e = record-view rec e
-  parsed_view parsed.NoColon e = unread parsed.NoColon e (λ rec f. omega (arith, ap parsed_number f))
-  parsed_view parsed.BadShape e = unread parsed.BadShape e (λ rec f. omega (arith, ap parsed_number f))
-  parsed_view (parsed.BadDigit k) e = unread (parsed.BadDigit k) e (λ rec f. omega (arith, ap parsed_number f))
-  parsed_view parsed.TooLong e = unread parsed.TooLong e (λ rec f. omega (arith, ap parsed_number f))
-  parsed_view parsed.BadLength e = unread parsed.BadLength e (λ rec f. omega (arith, ap parsed_number f))
-  parsed_view parsed.BadSum e = unread parsed.BadSum e (λ rec f. omega (arith, ap parsed_number f))
+      → View p l (on_record (Err (refusal_of r)) (fields_taken (moved_by p (length l)) (word_at (read_of l).«data»)) r)
+  parsed_view (Ok rec) e = record-view rec e
+  parsed_view (Err x) e = unread (Err x) e (λ rec f. cc)
 
 taken_is : (p : Plain) (l : List ℕ) → p.ended ≡ false → p.offset + length l ≤ 4194304
-    → on_record (Refused (refusal_of (read_of l).parsed)) (fields_taken (moved_by p (length l)) (word_at (read_of l).«data»)) (read_of l).parsed ≡ taken_of p l
+    → on_record (Err (refusal_of (read_of l).parsed)) (fields_taken (moved_by p (length l)) (word_at (read_of l).«data»)) (read_of l).parsed ≡ taken_of p l
 unfolding taken_of line_taken
 taken_is p l u m = rw (u, le-ltb 4194304 (p.offset + length l) m)
 
-too_long : (p : Plain) (l : List ℕ) → p.ended ≡ false → ltb 4194304 (p.offset + length l) ≡ true → Refused FileTooLong ≡ taken_of p l
+too_long : (p : Plain) (l : List ℕ) → p.ended ≡ false → ltb 4194304 (p.offset + length l) ≡ true → Err FileTooLong ≡ taken_of p l
 unfolding taken_of line_taken
 too_long p l u y = rw (u, y)
 
@@ -232,11 +224,11 @@ pub record Reading (p : Plain) (ls : List (List ℕ)) : Type 0 where
   pub stores : records_from p ls ≡ data_from p.base items
   pub short : p.offset + size_of items ≤ 4194304
 
-no_refusal : {A : Type 0} (k : ℕ) (a : Answer) → Bad k a ≡ Fine → A
+no_refusal : {A : Type 0} (k : ℕ) (a : Answer) → bad k a ≡ fine → A
 no_refusal k a e = absurd (let z : ◌≡◌ {A = ℕ} 0 1 = cc in omega arith)
 
 -- after the 01 there is no line
-past_end : (p : Plain) (k : ℕ) (ls : List (List ℕ)) → p.ended ≡ true → lines_verdict p k ls ≡ Fine → ls ≡ []
+past_end : (p : Plain) (k : ℕ) (ls : List (List ℕ)) → p.ended ≡ true → lines_verdict p k ls ≡ fine → ls ≡ []
 unfolding lines_verdict taken_of line_taken
 past_end p k [] u e = refl
 past_end p k (l ∷ ls) u e = no_refusal k _ (rw u at e)
@@ -264,15 +256,15 @@ last_one p l w =
       short = omega (arith, w.fits);
     }
 
-pub plain_reading : (ls : List (List ℕ)) (p : Plain) (k : ℕ) → p.ended ≡ false → lines_verdict p k ls ≡ Fine → Reading p ls
+pub plain_reading : (ls : List (List ℕ)) (p : Plain) (k : ℕ) → p.ended ≡ false → lines_verdict p k ls ≡ fine → Reading p ls
 unfolding lines_verdict
 plain_reading [] p k u e = no_refusal k _ (rw u at e)
 plain_reading (l ∷ ls) p k u e = by-view (line_view p l u) (λ q f. plain_reading ls q (suc k) f)
   where
-    by-view : View p l (taken_of p l) → ((q : Plain) → q.ended ≡ false → lines_verdict q (suc k) ls ≡ Fine → Reading q ls) → Reading p (l ∷ ls)
+    by-view : View p l (taken_of p l) → ((q : Plain) → q.ended ≡ false → lines_verdict q (suc k) ls ≡ fine → Reading q ls) → Reading p (l ∷ ls)
     by-view (stops f w) r = no_refusal k _ (rw f at e)
     by-view (goes w) r =
         went_on_lem p l ls w (r (plain (p.offset + length l) (base_after p.base (item_of l w.rec)) false) refl (rw (w.on, w.next) at e))
     by-view (ends w) r =
-        let f : lines_verdict (next_of p (taken_of p l)) (suc k) ls ≡ Fine = rw w.on at e in
+        let f : lines_verdict (next_of p (taken_of p l)) (suc k) ls ≡ fine = rw w.on at e in
         subst (λ (z : List (List ℕ)). Reading p (l ∷ z)) (sym (past_end (next_of p (taken_of p l)) (suc k) ls w.next f)) (last_one p l w)

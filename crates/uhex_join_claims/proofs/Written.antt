@@ -9,7 +9,7 @@ use Rattle.ihex_record.specs.Record.{data32, read_of}
 use Rattle.ihex_record.specs.Write.{field_bytes, checksum, record_text, record_line, lf, Bytes}
 use Rattle.ihex_record.specs.declared.Record.{Record}
 use Rattle.ihex_record.specs.declared.Line.{Line}
-use Rattle.ihex_record.specs.declared.ParseResult.TheVariants.{Good}
+use Rattle.std.specs.Prelude.{Ok}
 use Rattle.ihex_record.proofs.Data32.{data32_take}
 use Rattle.ihex_record.proofs.Written.{length_text, text_high, length_record, reads_back}
 use Rattle.ihex_file.specs.Lines.{glue, lines_of}
@@ -48,7 +48,7 @@ module _ (k a : ℕ) (d : List ℕ) (f : Fits k a d) where
   abbrev rec : Record
   rec = record { kind = k; address = a; len = length d }
 
-  back : read_of (record_line k a d) ≡ record { parsed = Good rec; «data» = data32 d }
+  back : read_of (record_line k a d) ≡ record { parsed = Ok rec; «data» = data32 d }
   unfolding record_line
   back = reads_back k a d (10 ∷ []) f.kind f.address f.short f.bytes lf
 

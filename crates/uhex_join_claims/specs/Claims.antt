@@ -1,5 +1,5 @@
 -- What is claimed of one file made from two (02, "One file from two"). Proved in proofs/Claims.antt. Assumes nothing.
-use Rattle.std.specs.Prelude.{ℕ, ◌+◌, ◌*◌, ◌%◌, ◌≤◌, ◌≡◌, cond, eqb, length, get_or, take, drop}
+use Rattle.std.specs.Prelude.{ℕ, ◌+◌, ◌*◌, ◌%◌, ◌≤◌, ◌≡◌, cond, eqb, length, get_or, take, drop, Ok, Err}
 use mathlib.Core.List.{List, [], ◌∷◌, ◌++◌, map, flatten}
 use Rattle.laws.specs.Stores.{Store, latest}
 use Rattle.uhex_grammar.specs.declared.Answer.{Answer}
@@ -10,7 +10,6 @@ use Rattle.uhex_claims.specs.Items.{Item, Says, size_of, word_of, item, line_for
 use Rattle.uhex_claims.specs.Whole.{data_type_of, Section, section_items, board_of, File}
 use Rattle.uhex_claims.specs.WholefileClaims.{Setup, Acceptance}
 use Rattle.uhex_join.specs.declared.answers.Refusal.{Refusal}
-use Rattle.uhex_join.specs.declared.answers.JoinAnswer.TheVariants.{Written, Refused}
 use Rattle.uhex_join.specs.Join.{join_of}
 use Rattle.uhex_join_claims.specs.Form.{Form}
 use Rattle.uhex_join_claims.specs.Refusals.{BadText}
@@ -19,7 +18,7 @@ use Rattle.uhex_join_claims.specs.PlainFile.{at, WithData, Cuts, PlainPieces, wi
 -- what holds of every output: of the two files, the lent room, and the lines of the n bytes that were written
 abbrev pub EveryOutput : (List ℕ → List ℕ → List (List ℕ) → Type 0) → Type 0
 EveryOutput P =
-    (a b out : List ℕ) (n : ℕ) → (join_of a b out).answer ≡ Written n → P a b (lines_of (take n (join_of a b out).room))
+    (a b out : List ℕ) (n : ℕ) → (join_of a b out).answer ≡ Ok n → P a b (lines_of (take n (join_of a b out).room))
 
 -- ---- "The output, read for each board, stores what its plain file, so split, stores."
 
@@ -97,7 +96,7 @@ JoinedArePlain = EveryOutput (λ a b ls. WithData a × WithData b)
 -- and where there is such a file that the room holds, it is written: a file has at most 4,194,304 bytes by its grammar
 unfoldable pub FittingIsWritten : Type 0
 FittingIsWritten =
-    (a b out : List ℕ) (ls : List (List ℕ)) → TwoSections a b ls → length (flatten ls) ≤ length out → (join_of a b out).answer ≡ Written (length (flatten ls))
+    (a b out : List ℕ) (ls : List (List ℕ)) → TwoSections a b ls → length (flatten ls) ≤ length out → (join_of a b out).answer ≡ Ok (length (flatten ls))
 
 -- "Refusals are 01's, V1's input whole first": V1's file is none, or it is one and V2's is none, or both are and the output is too long; a
 -- file that is none is bad at the line that is named, by the answer
@@ -108,7 +107,7 @@ pub data RefusalCase (a b : List ℕ) (r : Refusal) : Type 0 where
 
 -- so is every refusal
 unfoldable pub RefusedByBoard : Type 0
-RefusedByBoard = (a b out : List ℕ) (r : Refusal) → (join_of a b out).answer ≡ Refused r → RefusalCase a b r
+RefusedByBoard = (a b out : List ℕ) (r : Refusal) → (join_of a b out).answer ≡ Err r → RefusalCase a b r
 
 -- and these leave one refusal: one board, one line, one answer
 unfoldable pub RefusalIsOne : Type 0
@@ -118,10 +117,10 @@ RefusalIsOne = (a b : List ℕ) (q r : Refusal) → RefusalCase a b q → Refusa
 
 -- "A refusal writes nothing"
 unfoldable pub RefusalWritesNothing : Type 0
-RefusalWritesNothing = (a b out : List ℕ) (r : Refusal) → (join_of a b out).answer ≡ Refused r → (join_of a b out).room ≡ out
+RefusalWritesNothing = (a b out : List ℕ) (r : Refusal) → (join_of a b out).answer ≡ Err r → (join_of a b out).room ≡ out
 
 -- "room past the output stays"; "Output over 4,194,304 bytes or the lent room is 36"
 unfoldable pub PastOutputStays : Type 0
 PastOutputStays =
-    (a b out : List ℕ) (n : ℕ) → (join_of a b out).answer ≡ Written n
+    (a b out : List ℕ) (n : ℕ) → (join_of a b out).answer ≡ Ok n
     → (n ≤ length out) × (n ≤ 4194304) × (length (join_of a b out).room ≡ length out) × (drop n (join_of a b out).room ≡ drop n out)

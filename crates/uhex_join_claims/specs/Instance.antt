@@ -1,12 +1,11 @@
 -- Two small files, so that the claims are not empty, and the filling at its edges. Computed in proofs/Instance.antt. Assumes nothing.
-use Rattle.std.specs.Prelude.{ℕ, ◌≡◌, List, [], ◌∷◌, ◌++◌, map, length, take, replicate}
+use Rattle.std.specs.Prelude.{ℕ, ◌≡◌, List, [], ◌∷◌, ◌++◌, map, length, take, replicate, Ok, Err}
 use Rattle.laws.specs.Stores.{Store}
 use Rattle.ihex_record.specs.Write.{record_text, record_line}
 use Rattle.uhex_grammar.specs.Answers.{number_of}
 use Rattle.uhex_grammar.specs.declared.Answer.TheVariants.{FileTooLong}
 use Rattle.ihex_file.specs.Lines.{lines_of}
 use Rattle.uhex_claims.specs.Lines.{fresh_session, read_all, line_answers, stores_of}
-use Rattle.uhex_join.specs.declared.answers.JoinAnswer.TheVariants.{Written, Refused}
 use Rattle.ihex_write.specs.Fill.{fill_lines}
 use Rattle.uhex_join.specs.Text.{section_lines}
 use Rattle.uhex_join.specs.Join.{refusal, join_of}
@@ -42,8 +41,8 @@ pub record Reads (own : ℕ) (answers : List ℕ) (stores : List Store) (image :
 -- their file has 1,036 bytes; V1 stores its byte; V2 its byte at 3, and not the two pieces on either side of 65,536, which are outside
 unfoldable pub TwoAreJoined : Type 0
 TwoAreJoined =
-    ((join_of small crossing (room_of 1036)).answer ≡ Written 1036)
-    × ((join_of small crossing (room_of 1035)).answer ≡ Refused (refusal 0 0 FileTooLong))
+    ((join_of small crossing (room_of 1036)).answer ≡ Ok 1036)
+    × ((join_of small crossing (room_of 1035)).answer ≡ Err (refusal 0 0 FileTooLong))
     × Reads 0x9900 (34 ∷ 34 ∷ 33 ∷ replicate 22 34 ++ (35 ∷ [])) (at 1 (0x41 ∷ []) ∷ []) (0 ∷ 0x41 ∷ 0 ∷ 0 ∷ 0 ∷ 0 ∷ 0 ∷ 0 ∷ [])
     × Reads 0x9903 (replicate 11 34 ++ (34 ∷ 34 ∷ 32 ∷ 34 ∷ 32 ∷ 34 ∷ 33 ∷ replicate 7 34 ++ (35 ∷ []))) (at 3 (9 ∷ []) ∷ []) (0 ∷ 0 ∷ 0 ∷ 9 ∷ 0 ∷ 0 ∷ 0 ∷ 0 ∷ [])
 

@@ -1,9 +1,8 @@
 -- Which line of a plain file is refused, and why (02, "One file from two"): "at the first bad line 31, 36, 20 to 26 (type, length, no 01 at the
 -- end) or 29; then 30 for no data byte". Assumes nothing.
-use Rattle.std.specs.Prelude.{ℕ, ◌+◌, ◌≤◌, ◌<◌, ◌≡◌, ◌≢◌, List, [], ◌∷◌, ◌++◌, length}
+use Rattle.std.specs.Prelude.{ℕ, ◌+◌, ◌≤◌, ◌<◌, ◌≡◌, ◌≢◌, List, [], ◌∷◌, ◌++◌, length, Ok}
 use Rattle.ihex_record.specs.Record.{read_of}
 use Rattle.ihex_record.specs.declared.Record.{Record}
-use Rattle.ihex_record.specs.declared.ParseResult.TheVariants.{Good}
 use Rattle.uhex_grammar.specs.Answers.{refusal_of}
 use Rattle.uhex_grammar.specs.declared.Answer.{Answer}
 use Rattle.uhex_grammar.specs.declared.Answer.TheVariants.{OutOfPlace, Crosses, MissingBoard, AfterEnd, FileTooLong}
@@ -29,9 +28,9 @@ pub data Begun : List Item → Type 0 where
 -- a line is bad, where those before it have `size` bytes: by the first row that it fails
 pub data BadLine (size : ℕ) (l : List ℕ) : Answer → Type 0 where
   row_36 : 4194304 < size + length l → BadLine size l FileTooLong
-  rows_20_to_25 : size + length l ≤ 4194304 → ((rec : Record) → (read_of l).parsed ≢ Good rec) → BadLine size l (refusal_of (read_of l).parsed)
-  row_26 : size + length l ≤ 4194304 → (rec : Record) → (read_of l).parsed ≡ Good rec → (PlainType rec.kind rec.len → ⊥) → BadLine size l OutOfPlace
-  row_29 : size + length l ≤ 4194304 → (rec : Record) → (read_of l).parsed ≡ Good rec → rec.kind ≡ 0x00 → 65536 < rec.address + rec.len
+  rows_20_to_25 : size + length l ≤ 4194304 → ((rec : Record) → (read_of l).parsed ≢ Ok rec) → BadLine size l (refusal_of (read_of l).parsed)
+  row_26 : size + length l ≤ 4194304 → (rec : Record) → (read_of l).parsed ≡ Ok rec → (PlainType rec.kind rec.len → ⊥) → BadLine size l OutOfPlace
+  row_29 : size + length l ≤ 4194304 → (rec : Record) → (read_of l).parsed ≡ Ok rec → rec.kind ≡ 0x00 → 65536 < rec.address + rec.len
       → BadLine size l Crosses
 
 -- the first bad one of some lines, by its index from 0; past the last one the number of lines. The lines before it have at most 4,194,304 bytes:

@@ -9,14 +9,7 @@ use uhex_grammar::{Answer, ReaderState};
 pub fn has_failed(state: ReaderState) -> bool
     ensures { result ≡ has_failed state }
 {
-    match state {
-        ReaderState::Between => false,
-        ReaderState::Opened => false,
-        ReaderState::Inside(_) => false,
-        ReaderState::Padded(_) => false,
-        ReaderState::Ended => false,
-        ReaderState::Failed(_) => true,
-    }
+    matches!(state, ReaderState::Failed(_))
 }
 
 // An answer that changes a reader, which had failed before or not.

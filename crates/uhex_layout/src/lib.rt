@@ -6,7 +6,7 @@ pub mod reading;
 pub mod states;
 
 ghost use Rattle.std.specs.Prelude.{◌≡◌};
-ghost use Rattle.uhex_layout.specs.Readers.{state_code_of, flag_of, reader_bytes, reader_written};
+ghost use Rattle.uhex_layout.specs.Readers.{state_code_of, reader_bytes, reader_written};
 
 use uhex_effects::Reader;
 use uhex_grammar::ReaderState;
@@ -25,82 +25,52 @@ struct StateCode {
 fn state_code(state: ReaderState) -> StateCode
     ensures { result ≡ state_code_of state }
 {
-    match state {
-        ReaderState::Between => StateCode {
-            kind: 0,
-            failure: 0,
-            half: 0,
-        },
-        ReaderState::Opened => StateCode {
-            kind: 1,
-            failure: 0,
-            half: 0,
-        },
-        ReaderState::Inside(board) => StateCode {
-            kind: 2,
-            failure: 0,
-            half: board,
-        },
-        ReaderState::Padded(board) => StateCode {
-            kind: 3,
-            failure: 0,
-            half: board,
-        },
-        ReaderState::Ended => StateCode {
-            kind: 4,
-            failure: 0,
-            half: 0,
-        },
-        ReaderState::Failed(failure) => {
-            let answer = failure.answer;
-            StateCode {
-                kind: 5,
-                failure: answer.number(),
-                half: answer.position(),
-            }
-        }
+    let (kind, failure, half) = match state {
+        ReaderState::Between => (0, 0, 0),
+        ReaderState::Opened => (1, 0, 0),
+        ReaderState::Inside(board) => (2, 0, board),
+        ReaderState::Padded(board) => (3, 0, board),
+        ReaderState::Ended => (4, 0, 0),
+        ReaderState::Failed(failure) => (5, failure.answer.number(), failure.answer.position()),
+    };
+    StateCode {
+        kind,
+        failure,
+        half,
     }
-}
-
-fn flag(on: bool) -> u8
-    ensures { result ≡ flag_of on }
-{
-    if on { 1 } else { 0 }
 }
 
 // The bytes that a reader is.
 fn reader_bytes(reader: Reader) -> [u8; READER]
     ensures { result ≡ reader_bytes reader }
 {
-    let own = reader.own;
-    let upper = reader.upper;
-    let offset = reader.offset;
-    let state = reader.state;
-    let sections_seen = reader.sections_seen;
-    let data_seen = reader.data_seen;
-    let code = state_code(state);
-    let half = code.half;
+    let code = state_code(reader.state);
+    let own = reader.own.to_le_bytes();
+    let upper = reader.upper.to_le_bytes();
+    let offset = reader.offset.to_le_bytes();
+    let half = code.half.to_le_bytes();
     [
-        (own % 256) as u8,
-        (own / 256 % 256) as u8,
-        (upper % 256) as u8,
-        (upper / 256 % 256) as u8,
-        (offset % 256) as u8,
-        (offset / 256 % 256) as u8,
-        (offset / 65536 % 256) as u8,
-        (offset / 16777216 % 256) as u8,
+        own[0],
+        own[1],
+        upper[0],
+        upper[1],
+        offset[0],
+        offset[1],
+        offset[2],
+        offset[3],
         code.kind,
         code.failure,
-        (half % 256) as u8,
-        (half / 256 % 256) as u8,
-        flag(sections_seen.v1),
-        flag(sections_seen.v2),
-        flag(data_seen.v1),
-        flag(data_seen.v2),
+        half[0],
+        half[1],
+        u8::from(reader.sections_seen.v1),
+        u8::from(reader.sections_seen.v2),
+        u8::from(reader.data_seen.v1),
+        u8::from(reader.data_seen.v2),
     ]
 }
 
 // Writes a reader, where there are bytes for it.
+#[tactic(auto, using(crate::proofs::Written::written_copied), unfolding(crate::specs::Readers::reader_written))]
 pub fn write_reader(bytes: &mut [u8], reader: Reader)
     ensures { bytes.new ≡ reader_written bytes.old reader }
 {

@@ -1,19 +1,10 @@
 // A hex reader from its bytes. Every byte slice is read; `readers` has the layout.
-ghost use Rattle.std.specs.Prelude.{◌≡◌, ◌+◌, ◌*◌, length};
+ghost use Rattle.std.specs.Prelude.{◌≡◌, length};
 ghost use Rattle.uhex_layout.specs.Readers.{boards_from, state_at, fields_from, reader_from};
 
+use crate::READER;
 use uhex_effects::Reader;
 use uhex_grammar::{Boards, ReaderState};
-
-// The bytes of a reader.
-const READER: usize = 16;
-
-// Two bytes as a number, low first.
-fn joined(low: u8, high: u8) -> u16
-    ensures { result ≡ low + 256 * high }
-{
-    (low as u16) + 256 * (high as u16)
-}
 
 // Of V1 and of V2, each a flag.
 fn boards(v1: u8, v2: u8) -> Boards
@@ -26,30 +17,33 @@ fn boards(v1: u8, v2: u8) -> Boards
 }
 
 // Where a reader of 16 bytes stands.
+#[tactic(auto, using(laws::proofs::BytesLaws::number_two))]
 fn state_at(bytes: &[u8]) -> ReaderState
     requires { length bytes.now ≡ 16 }
     ensures { result ≡ state_at bytes.now }
 {
-    let half = joined(bytes[10], bytes[11]);
+    let half = u16::from_le_bytes([bytes[10], bytes[11]]);
     crate::states::state_from(bytes[8], bytes[9], half)
 }
 
 // The reader that 16 bytes are.
+#[tactic(auto, using(crate::proofs::Read::read_fields, laws::proofs::BytesLaws::number_two), unfolding(crate::specs::Readers::fields_from))]
 fn fields(bytes: &[u8]) -> Reader
     requires { length bytes.now ≡ 16 }
     ensures { result ≡ fields_from bytes.now }
 {
     Reader {
-        own: joined(bytes[0], bytes[1]),
+        own: u16::from_le_bytes([bytes[0], bytes[1]]),
         offset: uf2_block::field(bytes, 4),
         state: state_at(bytes),
-        upper: joined(bytes[2], bytes[3]),
+        upper: u16::from_le_bytes([bytes[2], bytes[3]]),
         sections_seen: boards(bytes[12], bytes[13]),
         data_seen: boards(bytes[14], bytes[15]),
     }
 }
 
 // The reader that bytes are.
+#[tactic(auto, using(crate::proofs::Read::read_good), unfolding(crate::specs::Readers::reader_from))]
 pub fn read_reader(bytes: &[u8]) -> Reader
     ensures { result ≡ reader_from bytes.now }
 {

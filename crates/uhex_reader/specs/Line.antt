@@ -1,7 +1,8 @@
 -- One line: the next reader, the answer, and the image as it is left (01, "Universal Hex, a line at a time"). The definitions of a good record's
 -- outcome and of a line that is read are passed on. Assumes nothing.
-use Rattle.std.specs.Prelude.{ℕ, Bool, ◌||◌, cond, List, ltb, length}
+use Rattle.std.specs.Prelude.{ℕ, Bool, ◌||◌, cond, List, ltb, length, Option, Some, None}
 use Rattle.uhex_grammar.specs.Answers.{number_of}
+use Rattle.uhex_grammar.specs.declared.Answer.{Answer}
 use Rattle.uhex_grammar.specs.declared.Answer.TheVariants as answer
 use Rattle.uhex_grammar.specs.declared.ReaderState.{ReaderState}
 use Rattle.uhex_grammar.specs.declared.ReaderState.TheVariants.{Between, Opened, Inside, Padded, Ended, Failed}
@@ -10,22 +11,20 @@ use Rattle.uhex_effects.specs.Reader.{bad_reader}
 pub use Rattle.uhex_reader.specs.Outcome.{LineOutcome, reply, line_outcome, failed_by, failing, address_of, outside, stored_at, record_effect}
 unfoldable pub use Rattle.uhex_reader.specs.Outcome.{storing, effect_outcome, record_outcome}
 unfoldable pub use Rattle.uhex_reader.specs.Live.{parsed_line, live_line}
-use Rattle.uhex_reader.specs.declared.Halt.{Halt}
-use Rattle.uhex_reader.specs.declared.Halt.TheVariants.{No, By}
 
 -- "A failed reader repeats its number and changes nothing. After the end: 31 AfterEnd, nothing changes."
-abbrev pub halt_of : ReaderState → Halt
-halt_of Between = No
-halt_of Opened = No
-halt_of (Inside b) = No
-halt_of (Padded b) = No
-halt_of Ended = By answer.AfterEnd
-halt_of (Failed f) = By f.answer
+abbrev pub halt_of : ReaderState → Option Answer
+halt_of Between = None
+halt_of Opened = None
+halt_of (Inside b) = None
+halt_of (Padded b) = None
+halt_of Ended = Some answer.AfterEnd
+halt_of (Failed f) = Some f.answer
 
 -- a line to a reader that reads no further, or to one that does
-unfoldable pub halt_line : Reader → List ℕ → List ℕ → Halt → LineOutcome
-halt_line r l img No = live_line r l img
-halt_line r l img (By a) = line_outcome r a img
+unfoldable pub halt_line : Reader → List ℕ → List ℕ → Option Answer → LineOutcome
+halt_line r l img None = live_line r l img
+halt_line r l img (Some a) = line_outcome r a img
 
 -- row 19: a board image has "1 to 1,048,576 bytes"
 abbrev pub bad_image : ℕ → Bool

@@ -1,7 +1,6 @@
 -- A line for a reader that is neither failed nor at the end (01, "Universal Hex, a line at a time", rows 20 to 36). Assumes nothing.
 use Rattle.std.specs.Prelude.{ℕ, ◌+◌, cond, List, ltb, length}
-use Rattle.ihex_record.specs.Record.{on_record, read_of}
-use Rattle.ihex_record.specs.declared.ParseResult.{ParseResult}
+use Rattle.ihex_record.specs.Record.{ParseResult, on_record, read_of}
 use Rattle.uhex_grammar.specs.Answers.{refusal_of}
 use Rattle.uhex_grammar.specs.declared.Answer.TheVariants as answer
 use Rattle.uhex_effects.specs.declared.Reader.{Reader}

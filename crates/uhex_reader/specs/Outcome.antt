@@ -1,5 +1,5 @@
 -- A good record of a line: the next reader, the answer, and the image as it is left (01, "Universal Hex, a line at a time"). Assumes nothing.
-use Rattle.std.specs.Prelude.{ℕ, ◌+◌, ◌*◌, Bool, cond, List, leb, ltb, length, take}
+use Rattle.std.specs.Prelude.{ℕ, ◌+◌, ◌*◌, Bool, cond, List, leb, ltb, length, take, Result, Ok, Err}
 use Rattle.laws.specs.Over.{over}
 use Rattle.ihex_record.specs.declared.Record.{Record}
 use Rattle.uhex_grammar.specs.declared.Answer.{Answer}
@@ -7,7 +7,7 @@ use Rattle.uhex_grammar.specs.declared.Answer.TheVariants as answer
 use Rattle.uhex_grammar.specs.declared.ReaderState.TheVariants.{Failed}
 use Rattle.uhex_effects.specs.declared.Reader.{Reader}
 use Rattle.uhex_effects.specs.declared.Effect.{Effect}
-use Rattle.uhex_effects.specs.declared.Effect.TheVariants.{Fails, Passes, Stores, Ends}
+use Rattle.uhex_effects.specs.declared.Effect.TheVariants.{Passes, Stores, Ends}
 use Rattle.uhex_effects.specs.Reader.{with_state, moved_to}
 use Rattle.uhex_reader.specs.declared.replies.Reply.{Reply}
 pub use Rattle.uhex_effects.specs.Effect.{record_effect}
@@ -55,11 +55,11 @@ storing r rec d e img =
     (line_outcome (moved_to r e) answer.Stored (over img (address_of r rec) (take rec.len d)))
 
 -- "Only 32 to 35 move the offset, by the line as handed, ending included": to e
-unfoldable pub effect_outcome : Reader → Record → List ℕ → ℕ → List ℕ → Effect → LineOutcome
-effect_outcome r rec d e img (Fails a) = failing r a img
-effect_outcome r rec d e img (Passes q) = line_outcome (moved_to q e) answer.Passed img
-effect_outcome r rec d e img (Stores q) = storing q rec d e img
-effect_outcome r rec d e img (Ends q) = line_outcome (moved_to q e) answer.Ended img
+unfoldable pub effect_outcome : Reader → Record → List ℕ → ℕ → List ℕ → Result Effect Answer → LineOutcome
+effect_outcome r rec d e img (Err a) = failing r a img
+effect_outcome r rec d e img (Ok (Passes q)) = line_outcome (moved_to q e) answer.Passed img
+effect_outcome r rec d e img (Ok (Stores q)) = storing q rec d e img
+effect_outcome r rec d e img (Ok (Ends q)) = line_outcome (moved_to q e) answer.Ended img
 
 -- rows 26 to 30 and 32 to 35
 unfoldable pub record_outcome : Reader → Record → List ℕ → ℕ → List ℕ → LineOutcome

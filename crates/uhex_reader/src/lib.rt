@@ -13,58 +13,40 @@ use crate::replies::Reply;
 use uhex_effects::Reader;
 use uhex_grammar::{Answer, Boards, ReaderState};
 
-// Whether a reader reads on, by where it stands: a failed one repeats its answer, and after the end there is one.
-#[derive(Clone, Copy)]
-enum Halt {
-    No,
-    By(Answer),
-}
-
-fn halted(state: ReaderState) -> Halt
+// The answer of a reader that reads no further: a failed one repeats its own, and after the end there is one.
+fn halted(state: ReaderState) -> Option<Answer>
     ensures { result ≡ halt_of state }
 {
     match state {
-        ReaderState::Between => Halt::No,
-        ReaderState::Opened => Halt::No,
-        ReaderState::Inside(_) => Halt::No,
-        ReaderState::Padded(_) => Halt::No,
-        ReaderState::Ended => Halt::By(Answer::AfterEnd),
-        ReaderState::Failed(failure) => {
-            let answer = failure.answer;
-            Halt::By(answer)
-        }
+        ReaderState::Ended => Some(Answer::AfterEnd),
+        ReaderState::Failed(failure) => Some(failure.answer),
+        _ => None,
     }
 }
 
 // A remembered failure that cannot be.
+#[tactic(auto, unfolding(uhex_effects::specs::Reader::bad_failure))]
 fn bad_failure(state: ReaderState) -> bool
     ensures { result ≡ bad_failure state }
 {
     match state {
-        ReaderState::Between => false,
-        ReaderState::Opened => false,
-        ReaderState::Inside(_) => false,
-        ReaderState::Padded(_) => false,
-        ReaderState::Ended => false,
-        ReaderState::Failed(failure) => {
-            let answer = failure.answer;
-            !answer.is_kept()
-        }
+        ReaderState::Failed(failure) => !failure.answer.is_kept(),
+        _ => false,
     }
 }
 
 // Row 18.
+#[tactic(auto, unfolding(uhex_effects::specs::Reader::bad_reader))]
 fn is_bad(reader: Reader) -> bool
     ensures { result ≡ bad_reader reader }
 {
-    let own = reader.own;
-    let state = reader.state;
-    let bad_board = !((own == Boards::V1) | (own == Boards::V2));
+    let bad_board = !((reader.own == Boards::V1) | (reader.own == Boards::V2));
     let past = Reader::FILE < reader.offset as usize;
-    bad_board | past | bad_failure(state)
+    bad_board | past | bad_failure(reader.state)
 }
 
 // Reads one line as it is handed, its ending included.
+#[tactic(auto, unfolding(crate::specs::Line::halt_line, crate::specs::Line::line_of, crate::specs::Line::line_number))]
 pub fn line(reader: Reader, line: &[u8], image: &mut [u8]) -> Reply
     ensures image_after { line_outcome result.reader result.answer image.new ≡ line_of reader line.now image.old }
     ensures number { number_of result.answer ≡ line_number reader line.now image.old }
@@ -81,9 +63,8 @@ pub fn line(reader: Reader, line: &[u8], image: &mut [u8]) -> Reply
             answer: Answer::BadReader,
         };
     }
-    let state = reader.state;
-    match halted(state) {
-        Halt::No => crate::live::live(reader, line, image),
-        Halt::By(answer) => Reply { reader, answer },
+    match halted(reader.state) {
+        None => crate::live::live(reader, line, image),
+        Some(answer) => Reply { reader, answer },
     }
 }

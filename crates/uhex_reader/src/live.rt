@@ -4,7 +4,6 @@ ghost use Rattle.uhex_reader.specs.Outcome.{line_outcome};
 ghost use Rattle.uhex_reader.specs.Live.{live_line};
 
 use crate::replies::Reply;
-use ihex_record::ParseResult;
 use uhex_effects::Reader;
 use uhex_grammar::Answer;
 
@@ -21,10 +20,8 @@ pub fn live(reader: Reader, line: &[u8], image: &mut [u8]) -> Reply
     }
     let end = (offset + line.len()) as u32;
     let read = ihex_record::record_line::read(line);
-    let parsed = read.parsed;
-    let ParseResult::Good(rec) = parsed else {
-        return crate::replies::failing(reader, uhex_grammar::refusal(parsed));
-    };
-    let data = read.data;
-    crate::replies::apply(reader, rec, data, end, image)
+    match read.parsed {
+        Ok(rec) => crate::replies::apply(reader, rec, read.data, end, image),
+        Err(error) => crate::replies::failing(reader, Answer::from(error)),
+    }
 }

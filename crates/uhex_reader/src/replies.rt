@@ -1,6 +1,5 @@
 // What a good record of a line leaves: the next reader of Universal Hex, the answer, and the image.
-ghost use Rattle.std.specs.Prelude.{◌≡◌, cond, ◌+◌, ◌≤◌, ltb, length, take};
-ghost use Rattle.laws.specs.Over.{over};
+ghost use Rattle.std.specs.Prelude.{◌≡◌, cond, ◌+◌, ◌≤◌, ltb, length};
 ghost use Rattle.uhex_grammar.specs.declared.Answer.TheVariants.{Outside, Stored};
 ghost use Rattle.uhex_effects.specs.Reader.{moved_to};
 ghost use Rattle.uhex_reader.specs.Outcome.{line_outcome, reply, failed_by, stored_at, storing, effect_outcome, bounded_outcome};
@@ -16,23 +15,12 @@ pub struct Reply {
     pub answer: Answer,
 }
 
-// The first n bytes, over the image from an address on.
-fn put_bytes(bytes: &[u8], n: usize, at: usize, image: &mut [u8])
-    requires n_in_bounds { n ≤ length bytes.now }
-    requires n_in_bounds_2 { at + n ≤ length image.old }
-    ensures { image.new ≡ over image.old at (take n bytes.now) }
-{
-    let e = at + n;
-    image[at..e].copy_from_slice(&bytes[..n]);
-}
-
 // A line that fails with an answer.
 pub fn failing(reader: Reader, answer: Answer) -> Reply
     ensures { result ≡ reply (failed_by answer reader) answer }
 {
-    let failure = Failure { answer };
     Reply {
-        reader: reader.with_state(ReaderState::Failed(failure)),
+        reader: reader.with_state(ReaderState::Failed(Failure { answer })),
         answer,
     }
 }
@@ -47,46 +35,49 @@ fn moving(reader: Reader, end: u32, answer: Answer) -> Reply
     }
 }
 
-// The first n bytes, over the image from an address on, where they are wholly in it.
-fn store_at(at: usize, n: usize, bytes: &[u8], image: &mut [u8]) -> Answer
-    requires { (n ≤ 32) × (n ≤ length bytes.now) × (at ≤ 4294967295) }
-    ensures value { result ≡ cond (ltb (length image.old) (at + n)) Outside Stored }
-    ensures image { image.new ≡ stored_at at n bytes.now image.old }
+// Bytes, over the image from an address on, where they are wholly in it.
+fn store_at(at: usize, bytes: &[u8], image: &mut [u8]) -> Answer
+    requires { (length bytes.now ≤ 32) × (at ≤ 4294967295) }
+    ensures value { result ≡ cond (ltb (length image.old) (at + length bytes.now)) Outside Stored }
+    ensures image { image.new ≡ stored_at at (length bytes.now) bytes.now image.old }
 {
-    if image.len() < at + n {
+    let end = at + bytes.len();
+    if image.len() < end {
         return Answer::Outside;
     }
-    put_bytes(bytes, n, at, image);
+    image[at..end].copy_from_slice(bytes);
     Answer::Stored
 }
 
 // Own data, of a line that ends at an offset.
-fn store(reader: Reader, rec: Record, data: &[u8], end: u32, image: &mut [u8]) -> Reply
-    requires { (rec.len ≤ 32) × (length «data».now ≡ 32) }
+fn store(reader: Reader, rec: Record, data: &[u8; Record::MAX], end: u32, image: &mut [u8]) -> Reply
+    requires { rec.len ≤ 32 }
     ensures { line_outcome result.reader result.answer image.new ≡ storing reader rec «data».now end image.old }
 {
     let at = Reader::REACH * (reader.upper as usize) + rec.address as usize;
-    let answer = store_at(at, rec.len as usize, data, image);
+    let n = rec.len as usize;
+    let answer = store_at(at, &data[..n], image);
     moving(reader, end, answer)
 }
 
 // The effect of a good record of a line that ends at an offset.
+#[tactic(auto, unfolding(crate::specs::Outcome::effect_outcome))]
 fn perform(
     reader: Reader,
-    effect: Effect,
+    effect: Result<Effect, Answer>,
     rec: Record,
-    data: &[u8],
+    data: &[u8; Record::MAX],
     end: u32,
     image: &mut [u8],
 ) -> Reply
-    requires { (rec.len ≤ 32) × (length «data».now ≡ 32) }
+    requires { rec.len ≤ 32 }
     ensures { line_outcome result.reader result.answer image.new ≡ effect_outcome reader rec «data».now end image.old effect }
 {
     match effect {
-        Effect::Fails(answer) => failing(reader, answer),
-        Effect::Passes(next) => moving(next, end, Answer::Passed),
-        Effect::Stores(next) => store(next, rec, data, end, image),
-        Effect::Ends(next) => moving(next, end, Answer::Ended),
+        Err(answer) => failing(reader, answer),
+        Ok(Effect::Passes(next)) => moving(next, end, Answer::Passed),
+        Ok(Effect::Stores(next)) => store(next, rec, data, end, image),
+        Ok(Effect::Ends(next)) => moving(next, end, Answer::Ended),
     }
 }
 

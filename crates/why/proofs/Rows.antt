@@ -1,9 +1,11 @@
 -- The one list of checks, row by row, as the code asks them. Assumes nothing.
+use Rattle.std.specs.Prelude.{Option, Some, Result, Ok, Err}
 use mathlib.Core.Path.{◌≡◌, refl, sym, ap, ◌∙◌}
 use mathlib.Core.Bool.{Bool, true, false, cond, true≢false}
 use mathlib.Core.List.{List, [], ◌∷◌, ◌++◌}
 use Prim.Native.Nat.{ℕ}
 use lib.ListN.{length}
+use Rattle.std.specs.Prelude.{Some, None}
 use Rattle.memory.specs.Bitmap.{marked_in}
 use Rattle.uf2_block.specs.Block.{field_at, has_flag, fields_of}
 use Rattle.uf2_block.specs.declared.Block.{Block}
@@ -12,25 +14,17 @@ use Rattle.transfer.specs.declared.Kind.{Kind}
 use Rattle.transfer.specs.declared.Kind.TheVariants.{Flash, MainRam, XipRam}
 use Rattle.transfer.specs.declared.State.{State}
 use Rattle.transfer.specs.declared.State.TheVariants.{Idle, Running, Done}
-use Rattle.uf2_checks.specs.Screen.{window_of}
+use Rattle.uf2_checks.specs.Screen.{window_of, Window}
 use Rattle.uf2_checks.specs.declared.Lengths.{Lengths}
-use Rattle.uf2_checks.specs.declared.Window.{Window}
-use Rattle.uf2_checks.specs.declared.Window.TheVariants.{Outside, In}
 use Rattle.arrival.specs.Arrive.{World, lengths_of}
 use Rattle.why_settings.specs.Faults.{fault_in, faults_of, first_in, first_fault}
 use Rattle.why_settings.specs.declared.Fault.{Fault}
-use Rattle.why_settings.specs.declared.Finding.{Finding}
-use Rattle.why_settings.specs.declared.Finding.TheVariants.{Bad}
 use Rattle.why_place.specs.Placing.{denies, first_denial, flash_denials, ram_denials, flash_access, ram_access}
 use Rattle.why_place.specs.declared.Denial.{Denial}
-use Rattle.why_place.specs.declared.Access.{Access}
-use Rattle.why_place.specs.declared.Access.TheVariants.{Denied}
 use Rattle.why_causes.specs.Checks.{by_numbers, row_of, or_next, or_last, running_row, done_row, state_row, magic_row, flags_row, header_row}
 use Rattle.why_causes.specs.Lengths.{flash_row, buffer_row, lengths_row}
 use Rattle.why_causes.specs.Numbers.{payload_row, numbers_row, address_row, stray_row, window_row}
 use Rattle.why_causes.specs.declared.Reason.{Reason}
-use Rattle.why_causes.specs.declared.Row.{Row}
-use Rattle.why_causes.specs.declared.Row.TheVariants.{Passes, Decides}
 use Rattle.why_causes.proofs.Rows.{rows_next}
 use Rattle.why_checks.specs.Block.{start_at, size_at, address_in, page_row, body_row, raised_of, fate_row, written_row}
 use Rattle.why_checks.specs.Parts.{fate_part, region_part, written_part}
@@ -38,9 +32,9 @@ use Rattle.why.specs.Checklist.{fault_reason, fault_row, settings_row, denial_re
 use Rattle.why.specs.Parts.{finding_row, access_row, access_in, board_part, early_part, block_part}
 
 -- rows in groups, and one after the other
-pub or_three : (p q r : Row) → or_next (or_next p q) r ≡ or_next p (or_next q r)
-or_three Passes q r = refl
-or_three (Decides x) q r = refl
+pub or_three : (p q r : Result (Unit {0}) Reason) → or_next (or_next p q) r ≡ or_next p (or_next q r)
+or_three (Ok u) q r = refl
+or_three (Err x) q r = refl
 
 -- ---- rows 2 and 8, whatever the test of the other rows
 
@@ -51,7 +45,7 @@ module _ (test : Reason → Bool) (s : Settings) where
   fault_rows len h [] = refl
   fault_rows len h (x ∷ l) = by-case (test (fault_reason s len x)) (fault_in s len x) (h x) (row_of test (fault_row s len l)) (first_in s len l) (fault_rows len h l)
     where
-      by-case : (b d : Bool) → b ≡ d → (p : Row) (q : Finding) → p ≡ finding_row s len q → cond b (Decides (fault_reason s len x)) p ≡ finding_row s len (cond d (Bad x) q)
+      by-case : (b d : Bool) → b ≡ d → (p : Result (Unit {0}) Reason) (q : Option Fault) → p ≡ finding_row s len q → cond b (Err (fault_reason s len x)) p ≡ finding_row s len (cond d (Some x) q)
       by-case true true e p q k = refl
       by-case true false e p q k = absurd (true≢false e)
       by-case false true e p q k = absurd (true≢false (sym e))
@@ -62,7 +56,7 @@ module _ (test : Reason → Bool) (s : Settings) where
   denial_rows f h [] = refl
   denial_rows f h (x ∷ l) = by-case (test (denial_reason f x)) (denies s f x) (h x) (row_of test (denial_row f l)) (first_denial s f l) (denial_rows f h l)
     where
-      by-case : (b d : Bool) → b ≡ d → (p : Row) (q : Access) → p ≡ access_row f q → cond b (Decides (denial_reason f x)) p ≡ access_row f (cond d (Denied x) q)
+      by-case : (b d : Bool) → b ≡ d → (p : Result (Unit {0}) Reason) (q : Result (Unit {0}) Denial) → p ≡ access_row f q → cond b (Err (denial_reason f x)) p ≡ access_row f (cond d (Err x) q)
       by-case true true e p q k = refl
       by-case true false e p q k = absurd (true≢false e)
       by-case false true e p q k = absurd (true≢false (sym e))
@@ -97,10 +91,10 @@ module _ (s : Settings) (w : World) (a : List ℕ) where
 
   page_rows : (u : Window) (size : ℕ) (b : Block) → row_of (holds_in s w a) (page_row u size b) ≡ row_of by_numbers (page_row u size b)
   unfolding row_of page_row payload_row numbers_row address_in address_row stray_row window_row
-  page_rows Outside size b = refl
-  page_rows (In Flash) size b = refl
-  page_rows (In MainRam) size b = refl
-  page_rows (In XipRam) size b = refl
+  page_rows None size b = refl
+  page_rows (Some Flash) size b = refl
+  page_rows (Some MainRam) size b = refl
+  page_rows (Some XipRam) size b = refl
 
   numbers_rows : (t k size : ℕ) → row_of (holds_in s w a) (numbers_row t k size) ≡ row_of by_numbers (numbers_row t k size)
   unfolding row_of numbers_row
@@ -126,8 +120,8 @@ module _ (s : Settings) (w : World) (a : List ℕ) where
   written_rows n total = refl
 
   -- rows one after the other
-  next : (l m : List Reason) {p q : Row} → row_of (holds_in s w a) l ≡ p → row_of (holds_in s w a) m ≡ q → row_of (holds_in s w a) (l ++ m) ≡ or_next p q
-  next l m {p} e k = rows_next (holds_in s w a) l m ∙ (ap (λ (r : Row). or_next r (row_of (holds_in s w a) m)) e ∙ ap (or_next p) k)
+  next : (l m : List Reason) {p q : Result (Unit {0}) Reason} → row_of (holds_in s w a) l ≡ p → row_of (holds_in s w a) m ≡ q → row_of (holds_in s w a) (l ++ m) ≡ or_next p q
+  next l m {p} e k = rows_next (holds_in s w a) l m ∙ (ap (λ (r : Result (Unit {0}) Reason). or_next r (row_of (holds_in s w a) m)) e ∙ ap (or_next p) k)
 
   board_rows_lem : row_of (holds_in s w a) (board_rows s w.transfer (length a) (lengths_of w.held) (length w.seen) (length w.held.sectors))
       ≡ board_part s w.transfer (length a) (lengths_of w.held) (length w.seen) (length w.held.sectors)

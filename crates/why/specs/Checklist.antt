@@ -1,6 +1,6 @@
 -- Every check of an arrival in 01's order with 02's (L3, L8, L9), each a reason with the numbers that it tests, and the one that decides (02, L6).
 -- Assumes nothing.
-use Rattle.std.specs.Prelude.{ℕ, Bool, false, List, [], ◌∷◌, ◌++◌, length}
+use Rattle.std.specs.Prelude.{ℕ, Bool, false, List, [], ◌∷◌, ◌++◌, length, Option}
 use Rattle.memory.specs.Bitmap.{marked_in}
 use Rattle.uf2_block.specs.Block.{field_at, has_flag, fields_of}
 use Rattle.uf2_block.specs.declared.Block.{Block}
@@ -59,7 +59,7 @@ place_row MainRam f = denial_row f ram_denials
 place_row XipRam f = denial_row f ram_denials
 
 -- rows 8 to 11, of a block of this kind, where p is its family's place in the flash
-unfoldable pub block_row : Place → Kind → Lengths → Block → List Reason
+unfoldable pub block_row : Option Place → Kind → Lengths → Block → List Reason
 block_row p k n b = place_row k b.family ++ body_row (room_of p k) n b
 
 -- ---- all of them
@@ -72,7 +72,7 @@ abbrev pub head_in : World → List ℕ → Head
 head_in w a = head_with (block_kind w a) (field_at a 28) (field_at a 24)
 
 -- the place of its family in the flash
-abbrev pub place_in : Settings → World → List ℕ → Place
+abbrev pub place_in : Settings → World → List ℕ → Option Place
 place_in s w a = place_of s (length w.held.flash) (field_at a 28)
 
 -- rows 1 to 3

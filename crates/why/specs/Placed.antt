@@ -1,23 +1,19 @@
 -- Why a family has a place in the flash, or none: "For a place it names the pass and the entry, or the whole-flash rule." (02, L6) Assumes nothing.
-use Rattle.std.specs.Prelude.{ℕ, Bool, List, ◌++◌}
+use Rattle.std.specs.Prelude.{ℕ, Bool, List, ◌++◌, Result, Ok, Err}
 use Rattle.partitions.specs.declared.Settings.{Settings}
 use Rattle.transfer.specs.Transfer.{number_of}
 use Rattle.why_settings.specs.Faults.{fault_in}
 use Rattle.why_place.specs.Placing.{denies, flash_denials, granted_spot}
-use Rattle.why_place.specs.declared.Spot.{Spot}
-use Rattle.why_place.specs.declared.Spot.TheVariants as spot
+use Rattle.why_place.specs.declared.Origin.{Origin}
 use Rattle.why_causes.specs.Causes.{answer_of, number_test}
 use Rattle.why_causes.specs.Checks.{row_of}
 use Rattle.why_causes.specs.Lengths.{flash_row}
 use Rattle.why_causes.specs.declared.Cause.{Cause}
 use Rattle.why_causes.specs.declared.Cause.TheVariants.{BadBuffers, BadSettings, BadState, NotBlock, Container, NoFamily, NoPlace, BadPayload, BadNumbers, BadAddress, Finished, Again, Written, Completed, Noted, Kept}
 use Rattle.why_causes.specs.declared.Reason.{Reason}
-use Rattle.why_causes.specs.declared.Row.{Row}
-use Rattle.why_causes.specs.declared.Row.TheVariants.{Passes, Decides}
-use Rattle.why.specs.declared.PlaceOrigin.{PlaceOrigin}
-use Rattle.why.specs.declared.PlaceOrigin.TheVariants.{Refused, Whole, Entry}
 use Rattle.why.specs.declared.WhyPlace.{WhyPlace}
 use Rattle.why.specs.Why.{settings_row, denial_reason, denial_row, no_marks, entries_of}
+use Rattle.why_place.specs.declared.Denial.{Denial}
 
 -- "A place asked for alone, with settings and a flash length, is refused by 1, 2 or 8, in that order."
 unfoldable pub place_checks : Settings → ℕ → ℕ → List Reason
@@ -46,29 +42,26 @@ abbrev pub holds_of : Settings → ℕ → ℕ → Reason → Bool
 holds_of s len f r = place_test s len f r.cause r.got r.against
 
 -- where the place comes from, of a family that is not shut out
-abbrev pub placed_spot : ℕ → Spot → PlaceOrigin
-placed_spot f (spot.Refused x) = Refused (denial_reason f x)
-placed_spot f (spot.Whole r) = Whole r
-placed_spot f (spot.Entry p k) = Entry p k
+abbrev pub placed_spot : ℕ → Result Origin Denial → Result Origin Reason
+placed_spot f (Err x) = Err (denial_reason f x)
+placed_spot f (Ok x) = Ok x
 
-abbrev pub placed_by : Row → PlaceOrigin → PlaceOrigin
-placed_by Passes y = y
-placed_by (Decides x) y = Refused x
+abbrev pub placed_by : Result (Unit {0}) Reason → Result Origin Reason → Result Origin Reason
+placed_by (Ok u) y = y
+placed_by (Err x) y = Err x
 
-unfoldable pub placed_of : Settings → ℕ → ℕ → PlaceOrigin
+unfoldable pub placed_of : Settings → ℕ → ℕ → Result Origin Reason
 placed_of s len f = placed_by (row_of (holds_of s len f) (place_checks s len f)) (placed_spot f (granted_spot s f))
 
 -- the answer's number, and 0 for a place that is found
-abbrev pub placed_number : PlaceOrigin → ℕ
-placed_number (Refused x) = number_of (answer_of x.cause)
-placed_number (Whole r) = 0
-placed_number (Entry p k) = 0
+abbrev pub placed_number : Result Origin Reason → ℕ
+placed_number (Err x) = number_of (answer_of x.cause)
+placed_number (Ok x) = 0
 
 -- the marks of a refusal
-abbrev pub placed_marks : Settings → ℕ → PlaceOrigin → List ℕ
-placed_marks s f (Refused x) = entries_of s f x.cause
-placed_marks s f (Whole r) = no_marks
-placed_marks s f (Entry p k) = no_marks
+abbrev pub placed_marks : Settings → ℕ → Result Origin Reason → List ℕ
+placed_marks s f (Err x) = entries_of s f x.cause
+placed_marks s f (Ok x) = no_marks
 
 -- of a place asked for alone
 abbrev pub why_place_number : WhyPlace → ℕ

@@ -2,10 +2,10 @@
 #![tactic(auto)]
 
 ghost use Rattle.std.specs.Prelude.{◌≡◌};
-ghost use Rattle.why.specs.Why.{reason_of, discards_of, no_marks, denial_marks, entries_of, why_number, why_of};
+ghost use Rattle.why.specs.Why.{reason_of, discards_of, entries_of, why_number, why_of};
 ghost use Rattle.why.specs.Placed.{placed_of, placed_marks, why_place_number, why_place_of};
 ghost use Rattle.laws.specs.Numbered.{numbered};
-ghost use Rattle.why.specs.Parts.{finding_row, access_row, access_in, board_part, early_part, block_part, place_part};
+ghost use Rattle.why.specs.Parts.{finding_row, access_in, board_part, early_part, block_part, place_part};
 ghost use Rattle.why_settings.specs.Faults.{first_fault};
 ghost use Rattle.arrival.specs.Lending.{lent_at, world};
 
@@ -14,9 +14,8 @@ use placement::Place;
 use transfer::{Head, Kind, Transfer};
 use uf2_block::Block;
 use uf2_checks::Lengths;
-use why_causes::{Cause, Reason, Row};
-use why_place::{Access, Denial, Rule, Spot};
-use why_settings::Finding;
+use why_causes::{Cause, Reason};
+use why_place::{Denial, Origin};
 
 // Why an arrival is answered as it is: the reason, whether a running transfer is discarded and, where no entry of a table takes the family, a mark for
 // each used entry: 1 "B of", else 2 "doesn't accept".
@@ -27,30 +26,22 @@ pub struct Why {
     pub entries: [u8; 16],
 }
 
-// Where a place comes from: the rule that gives the whole flash, or the pass, 1 to 4, and the entry; or why there is none.
-#[derive(Clone, Copy)]
-pub enum PlaceOrigin {
-    Refused(Reason),
-    Whole(Rule),
-    Entry { pass: u8, entry: u8 },
-}
-
-// The same with the marks of the entries.
+// Where a place comes from, or the reason why there is none, with the marks of the entries.
 #[derive(Clone, Copy)]
 pub struct WhyPlace {
-    pub placed: PlaceOrigin,
+    pub placed: Result<Origin, Reason>,
     pub entries: [u8; 16],
 }
 
 // ---- rows 1 to 7
 
 // The first fault of the settings, with its numbers.
-fn fault_row(settings: Settings, flash_len: usize) -> Row
+fn fault_row(settings: Settings, flash_len: usize) -> Result<(), Reason>
     ensures { result ≡ finding_row settings flash_len (first_fault settings flash_len) }
 {
     match why_settings::first::first(settings, flash_len) {
-        Finding::Sound => Row::Passes,
-        Finding::Bad(x) => {
+        None => Ok(()),
+        Some(x) => {
             let n = why_settings::numbers(settings, flash_len, x);
             why_causes::decides(Cause::BadSettings(x), n.got, n.against)
         }
@@ -58,16 +49,18 @@ fn fault_row(settings: Settings, flash_len: usize) -> Row
 }
 
 // Row 2. Good settings have no fault, which is told sooner than each fault that they do not have.
-fn settings_row(settings: Settings, flash_len: usize) -> Row
+#[tactic(auto, using(crate::proofs::Laws::finding_good))]
+fn settings_row(settings: Settings, flash_len: usize) -> Result<(), Reason>
     ensures { result ≡ finding_row settings flash_len (first_fault settings flash_len) }
 {
     if partitions::validity::good(settings, flash_len) {
-        return Row::Passes;
+        return Ok(());
     }
     fault_row(settings, flash_len)
 }
 
 // Rows 1 to 3.
+#[tactic(auto, unfolding(crate::specs::Parts::board_part))]
 fn board_row(
     settings: Settings,
     transfer: Transfer,
@@ -75,21 +68,16 @@ fn board_row(
     lens: Lengths,
     seen: usize,
     sectors: usize,
-) -> Row
+) -> Result<(), Reason>
     ensures { result ≡ board_part settings transfer.state arrival lens seen sectors }
 {
-    let first = why_causes::lengths::lengths_row(arrival, lens, seen, sectors);
-    if let Row::Decides(x) = first {
-        return Row::Decides(x);
-    }
-    let second = settings_row(settings, lens.flash);
-    if let Row::Decides(y) = second {
-        return Row::Decides(y);
-    }
+    why_causes::lengths::lengths_row(arrival, lens, seen, sectors)?;
+    settings_row(settings, lens.flash)?;
     why_causes::state_row(transfer)
 }
 
 // Rows 1 to 7.
+#[tactic(auto, unfolding(crate::specs::Parts::early_part))]
 fn early_row(
     settings: Settings,
     transfer: Transfer,
@@ -97,29 +85,17 @@ fn early_row(
     lens: Lengths,
     seen: usize,
     sectors: usize,
-) -> Row
+) -> Result<(), Reason>
     ensures { result ≡ early_part settings transfer.state arrival.now lens seen sectors }
 {
-    let board = board_row(settings, transfer, arrival.len(), lens, seen, sectors);
-    if let Row::Decides(x) = board {
-        return Row::Decides(x);
-    }
+    board_row(settings, transfer, arrival.len(), lens, seen, sectors)?;
     why_causes::header_row(arrival)
 }
 
 // ---- rows 8 to 11
 
-fn access_row(access: Access, family: u32) -> Row
-    ensures { result ≡ access_row family access }
-{
-    match access {
-        Access::Granted => Row::Passes,
-        Access::Denied(x) => why_causes::decides(Cause::NoPlace(x), family as u64, 0),
-    }
-}
-
 // What shuts a family out, by the kind of its block.
-fn access_in(settings: Settings, kind: Kind, family: u32) -> Access
+fn access_in(settings: Settings, kind: Kind, family: u32) -> Result<(), Denial>
     ensures { result ≡ access_in settings kind family }
 {
     match kind {
@@ -130,14 +106,21 @@ fn access_in(settings: Settings, kind: Kind, family: u32) -> Access
 }
 
 // Rows 8 to 11, where `place` is the family's in the flash.
-fn block_row(settings: Settings, place: Place, kind: Kind, lens: Lengths, b: Block) -> Row
+#[tactic(auto, unfolding(crate::specs::Parts::block_part))]
+fn block_row(
+    settings: Settings,
+    place: Option<Place>,
+    kind: Kind,
+    lens: Lengths,
+    b: Block,
+) -> Result<(), Reason>
     ensures { result ≡ block_part settings place kind lens b }
 {
-    let access = access_in(settings, kind, b.family);
-    let denial = access_row(access, b.family);
-    if let Row::Decides(x) = denial {
-        return Row::Decides(x);
-    }
+    access_in(settings, kind, b.family).map_err(|x| Reason::new(
+        Cause::NoPlace(x),
+        b.family as u64,
+        0,
+    ))?;
     let size = why_checks::room_of(place, kind);
     why_checks::body_row(size, lens, b)
 }
@@ -145,6 +128,7 @@ fn block_row(settings: Settings, place: Place, kind: Kind, lens: Lengths, b: Blo
 // ---- an arrival
 
 // The check that decides.
+#[tactic(auto, using(crate::proofs::Laws::reason_early, crate::proofs::Laws::reason_block, crate::proofs::Laws::reason_late))]
 fn reason_of(
     settings: Settings,
     transfer: Transfer,
@@ -162,15 +146,13 @@ fn reason_of(
         main: main.len(),
         xip: xip.len(),
     };
-    let early = early_row(settings, transfer, arrival, lens, seen.len(), sectors.len());
-    if let Row::Decides(x) = early {
+    if let Err(x) = early_row(settings, transfer, arrival, lens, seen.len(), sectors.len()) {
         return x;
     }
     let b = uf2_block::fields(arrival);
     let kind = why_checks::kind_of(lens, transfer, b);
     let place = placement::find(settings, flash.len(), b.family);
-    let row = block_row(settings, place, kind, lens, b);
-    if let Row::Decides(y) = row {
+    if let Err(y) = block_row(settings, place, kind, lens, b) {
         return y;
     }
     let head = Head::new(kind, b.family, b.total);
@@ -180,6 +162,7 @@ fn reason_of(
 }
 
 // Is a running transfer discarded, of a block of this head?
+#[tactic(auto, using(crate::proofs::Kept::discards_is))]
 fn discards(transfer: Transfer, head: Head, cause: Cause) -> bool
     ensures { result ≡ discards_of transfer.state head cause }
 {
@@ -187,32 +170,19 @@ fn discards(transfer: Transfer, head: Head, cause: Cause) -> bool
     why_causes::progress::discards(transfer, head, number)
 }
 
-fn no_marks() -> [u8; 16]
-    ensures { result ≡ no_marks }
-{
-    [0; 16]
-}
-
 // The marks of the entries, where no entry of a table takes the family.
-fn denial_marks(settings: Settings, family: u32, denial: Denial) -> [u8; 16]
-    ensures { result ≡ denial_marks settings family denial }
-{
-    let Denial::NoEntry = denial else {
-        return no_marks();
-    };
-    why_place::marks(settings, family)
-}
-
+#[tactic(auto, using(crate::proofs::Kept::no_denial, crate::proofs::Kept::no_entry), unfolding(crate::specs::Why::no_marks, memory::specs::Many::many))]
 fn entries_of(settings: Settings, family: u32, cause: Cause) -> [u8; 16]
     ensures { result ≡ entries_of settings family cause }
 {
-    let Cause::NoPlace(x) = cause else {
-        return no_marks();
-    };
-    denial_marks(settings, family, x)
+    match cause {
+        Cause::NoPlace(Denial::NoEntry) => why_place::marks(settings, family),
+        _ => [0; 16],
+    }
 }
 
 // Why an arrival is answered as it is. Nothing changes.
+#[tactic(auto, using(crate::proofs::Laws::explained))]
 pub fn explain(
     settings: Settings,
     transfer: Transfer,
@@ -247,45 +217,39 @@ pub fn explain(
 // ---- a place asked for alone
 
 // Rows 1 and 2.
-fn place_row(settings: Settings, flash_len: usize) -> Row
+#[tactic(auto, unfolding(crate::specs::Parts::place_part))]
+fn place_row(settings: Settings, flash_len: usize) -> Result<(), Reason>
     ensures { result ≡ place_part settings flash_len }
 {
-    let first = why_causes::lengths::flash_row(flash_len);
-    if let Row::Decides(x) = first {
-        return Row::Decides(x);
-    }
+    why_causes::lengths::flash_row(flash_len)?;
     settings_row(settings, flash_len)
 }
 
 // Where the place comes from, or why there is none.
-fn place_source(settings: Settings, flash_len: usize, family: u32) -> PlaceOrigin
+#[tactic(auto, using(crate::proofs::Laws::placed_row))]
+fn place_source(settings: Settings, flash_len: usize, family: u32) -> Result<Origin, Reason>
     ensures { result ≡ placed_of settings flash_len family }
 {
-    let row = place_row(settings, flash_len);
-    if let Row::Decides(x) = row {
-        return PlaceOrigin::Refused(x);
-    }
-    match why_place::locate(settings, family) {
-        Spot::Refused(y) => PlaceOrigin::Refused(Reason::new(Cause::NoPlace(y), family as u64, 0)),
-        Spot::Whole(rule) => PlaceOrigin::Whole(rule),
-        Spot::Entry { pass, entry } => PlaceOrigin::Entry { pass, entry },
-    }
+    place_row(settings, flash_len)?;
+    why_place::locate(settings, family).map_err(|x| Reason::new(
+        Cause::NoPlace(x),
+        family as u64,
+        0,
+    ))
 }
 
-fn placed_marks(settings: Settings, family: u32, placed: PlaceOrigin) -> [u8; 16]
+#[tactic(auto, unfolding(crate::specs::Why::no_marks, memory::specs::Many::many))]
+fn placed_marks(settings: Settings, family: u32, placed: Result<Origin, Reason>) -> [u8; 16]
     ensures { result ≡ placed_marks settings family placed }
 {
     match placed {
-        PlaceOrigin::Refused(x) => {
-            let cause = x.cause;
-            entries_of(settings, family, cause)
-        }
-        PlaceOrigin::Whole(_) => no_marks(),
-        PlaceOrigin::Entry { pass: _, entry: _ } => no_marks(),
+        Ok(_) => [0; 16],
+        Err(x) => entries_of(settings, family, x.cause),
     }
 }
 
 // Why a family has a place in a flash of so many bytes, or none.
+#[tactic(auto, using(crate::proofs::Laws::place_explained))]
 pub fn explain_place(settings: Settings, flash_len: usize, family: u32) -> WhyPlace
     ensures { numbered why_place_number result ≡ numbered why_place_number (why_place_of settings flash_len family) }
 {

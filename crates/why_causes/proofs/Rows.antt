@@ -3,8 +3,7 @@ use mathlib.Core.Path.{◌≡◌, refl, sym, ap, ◌∙◌}
 use mathlib.Core.Bool.{Bool, true, false, cond}
 use mathlib.Core.List.{List, [], ◌∷◌, ◌++◌}
 use Rattle.why_causes.specs.declared.Reason.{Reason}
-use Rattle.why_causes.specs.declared.Row.{Row}
-use Rattle.why_causes.specs.declared.Row.TheVariants.{Passes, Decides}
+use Rattle.std.specs.Prelude.{Result, Ok, Err}
 use Rattle.why_causes.specs.Checks.{row_of, or_next, or_last, Deciding, none, here, later}
 
 module _ (test : Reason → Bool) where
@@ -13,20 +12,20 @@ module _ (test : Reason → Bool) where
   rows_next [] m = refl
   rows_next (c ∷ l) m = by-case (test c) c (row_of test (l ++ m)) (row_of test l) (row_of test m) (rows_next l m)
     where
-      by-case : (b : Bool) (x : Reason) (p q r : Row) → p ≡ or_next q r → cond b (Decides x) p ≡ or_next (cond b (Decides x) q) r
+      by-case : (b : Bool) (x : Reason) (p q r : Result (Unit {0}) Reason) → p ≡ or_next q r → cond b (Err x) p ≡ or_next (cond b (Err x) q) r
       by-case true x p q r e = refl
       by-case false x p q r e = e
 
   -- a row that decides, and one that passes to the next
-  module _ (l m : List Reason) {r : Row} (e : r ≡ row_of test l) where
-    pub row_decides : {x : Reason} → r ≡ Decides x → Decides x ≡ row_of test (l ++ m)
-    row_decides h = sym (rows_next l m ∙ ap (λ (q : Row). or_next q (row_of test m)) (sym e ∙ h))
+  module _ (l m : List Reason) {r : Result (Unit {0}) Reason} (e : r ≡ row_of test l) where
+    pub row_decides : {x : Reason} → r ≡ Err x → Err x ≡ row_of test (l ++ m)
+    row_decides h = sym (rows_next l m ∙ ap (λ (q : Result (Unit {0}) Reason). or_next q (row_of test m)) (sym e ∙ h))
 
-    pub row_passes : {q : Row} → r ≡ Passes → q ≡ row_of test m → q ≡ row_of test (l ++ m)
-    row_passes h k = k ∙ sym (rows_next l m ∙ ap (λ (q : Row). or_next q (row_of test m)) (sym e ∙ h))
+    pub row_passes : {q : Result (Unit {0}) Reason} → r ≡ Ok tt → q ≡ row_of test m → q ≡ row_of test (l ++ m)
+    row_passes h k = k ∙ sym (rows_next l m ∙ ap (λ (q : Result (Unit {0}) Reason). or_next q (row_of test m)) (sym e ∙ h))
 
   -- a check that passes to the next
-  pub row_later : (c : Reason) (l : List Reason) {q : Row} → test c ≡ false → q ≡ row_of test l → q ≡ row_of test (c ∷ l)
+  pub row_later : (c : Reason) (l : List Reason) {q : Result (Unit {0}) Reason} → test c ≡ false → q ≡ row_of test l → q ≡ row_of test (c ∷ l)
   unfolding row_of
   row_later c l h e = e ∙ sym (rw h)
 
@@ -36,6 +35,6 @@ module _ (test : Reason → Bool) where
   deciding last [] = none
   deciding last (c ∷ l) = by-case (test c) refl (deciding last l)
     where
-      by-case : (b : Bool) → test c ≡ b → Deciding test last l (or_last last (row_of test l)) → Deciding test last (c ∷ l) (or_last last (cond b (Decides c) (row_of test l)))
+      by-case : (b : Bool) → test c ≡ b → Deciding test last l (or_last last (row_of test l)) → Deciding test last (c ∷ l) (or_last last (cond b (Err c) (row_of test l)))
       by-case true h d = here h
       by-case false h d = later h d

@@ -1,6 +1,6 @@
 -- Checks in their order, and which of them decides (02, L6): "first in its row as written (then the first field, map or entry in 01)". A check is the
 -- reason that it is where it decides, and a test of its condition and its numbers tells whether it does. Assumes nothing.
-use Rattle.std.specs.Prelude.{ℕ, ◌≡◌, Bool, true, false, cond, List, [], ◌∷◌, ◌++◌}
+use Rattle.std.specs.Prelude.{ℕ, ◌≡◌, Bool, true, false, cond, List, [], ◌∷◌, ◌++◌, Result, Ok, Err}
 use Rattle.uf2_block.specs.Block.{field_at}
 use Rattle.transfer.specs.declared.Head.{Head}
 use Rattle.transfer.specs.declared.Run.{Run}
@@ -10,26 +10,24 @@ use Rattle.why_causes.specs.declared.Bound.TheVariants.{CountUnder, CountOver, R
 use Rattle.why_causes.specs.declared.Magic.TheVariants.{First, Second, Last}
 use Rattle.why_causes.specs.declared.Cause.TheVariants.{BadState, NotBlock, Container, NoFamily}
 use Rattle.why_causes.specs.declared.Reason.{Reason}
-use Rattle.why_causes.specs.declared.Row.{Row}
-use Rattle.why_causes.specs.declared.Row.TheVariants.{Passes, Decides}
 use Rattle.why_causes.specs.Causes.{reason_with, number_test}
 
 -- ---- which check decides
 
 -- the first check whose test holds
-unfoldable pub row_of : (Reason → Bool) → List Reason → Row
-row_of test [] = Passes
-row_of test (c ∷ l) = cond (test c) (Decides c) (row_of test l)
+unfoldable pub row_of : (Reason → Bool) → List Reason → Result (Unit {0}) Reason
+row_of test [] = Ok tt
+row_of test (c ∷ l) = cond (test c) (Err c) (row_of test l)
 
 -- the row before, or what comes next
-abbrev pub or_next : Row → Row → Row
-or_next Passes r = r
-or_next (Decides x) r = Decides x
+abbrev pub or_next : Result (Unit {0}) Reason → Result (Unit {0}) Reason → Result (Unit {0}) Reason
+or_next (Ok u) r = r
+or_next (Err x) r = Err x
 
 -- the reason of a row, and `last` where every check passes
-abbrev pub or_last : Reason → Row → Reason
-or_last last Passes = last
-or_last last (Decides x) = x
+abbrev pub or_last : Reason → Result (Unit {0}) Reason → Reason
+or_last last (Ok u) = last
+or_last last (Err x) = x
 
 -- "every earlier check passes, this one doesn't"; or all pass, and the last reason stands
 pub data Deciding (test : Reason → Bool) (last : Reason) : List Reason → Reason → Type 0 where

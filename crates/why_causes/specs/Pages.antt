@@ -1,11 +1,9 @@
 -- Rows 9 to 11 of a data block, each check with the numbers that it tests (02, L6). Assumes nothing.
-use Rattle.std.specs.Prelude.{ℕ, ◌+◌, List, ◌++◌}
+use Rattle.std.specs.Prelude.{ℕ, ◌+◌, List, ◌++◌, Some, None}
 use Rattle.uf2_block.specs.declared.Block.{Block}
 use Rattle.transfer.specs.declared.Kind.{Kind}
 use Rattle.transfer.specs.declared.Kind.TheVariants.{Flash, MainRam, XipRam}
-use Rattle.uf2_checks.specs.Screen.{base_of, extent_of}
-use Rattle.uf2_checks.specs.declared.Window.{Window}
-use Rattle.uf2_checks.specs.declared.Window.TheVariants.{Outside, In}
+use Rattle.uf2_checks.specs.Screen.{base_of, extent_of, Window}
 use Rattle.why_causes.specs.declared.Reason.{Reason}
 use Rattle.why_causes.specs.Numbers.{payload_row, numbers_row, address_row, stray_row, window_row}
 
@@ -17,5 +15,5 @@ address_in XipRam address size = window_row address (base_of XipRam + extent_of 
 
 -- rows 9 to 11, of a data block; "For an address in no window .. 11 comes before 10" (02, L8)
 unfoldable pub page_row : Window → ℕ → Block → List Reason
-page_row Outside size b = payload_row b.size ++ (stray_row b.address ++ numbers_row b.total b.number size)
-page_row (In k) size b = payload_row b.size ++ (numbers_row b.total b.number size ++ address_in k b.address size)
+page_row None size b = payload_row b.size ++ (stray_row b.address ++ numbers_row b.total b.number size)
+page_row (Some k) size b = payload_row b.size ++ (numbers_row b.total b.number size ++ address_in k b.address size)

@@ -106,83 +106,88 @@ pub struct Reason {
     pub against: u64,
 }
 
-// What a row of checks comes to.
-#[derive(Clone, Copy)]
-pub enum Row {
-    Passes,
-    Decides(Reason),
-}
-
-fn length_number(x: Length) -> u16
-    ensures { result ≡ length_number x }
-{
-    match x {
-        Length::Arrival => 101,
-        Length::FlashRagged => 102,
-        Length::FlashUnder => 103,
-        Length::FlashOver => 104,
-        Length::Seen => 105,
-        Length::Sectors => 106,
-        Length::Main => 107,
-        Length::Xip => 108,
+impl Length {
+    fn number(self) -> u16
+        ensures { result ≡ length_number self }
+    {
+        match self {
+            Length::Arrival => 101,
+            Length::FlashRagged => 102,
+            Length::FlashUnder => 103,
+            Length::FlashOver => 104,
+            Length::Seen => 105,
+            Length::Sectors => 106,
+            Length::Main => 107,
+            Length::Xip => 108,
+        }
     }
 }
 
-fn bound_number(x: Bound) -> u16
-    ensures { result ≡ bound_number x }
-{
-    match x {
-        Bound::CountUnder => 301,
-        Bound::CountOver => 302,
-        Bound::RunningOver => 303,
-        Bound::DoneUnder => 304,
-        Bound::DoneOver => 305,
+impl Bound {
+    fn number(self) -> u16
+        ensures { result ≡ bound_number self }
+    {
+        match self {
+            Bound::CountUnder => 301,
+            Bound::CountOver => 302,
+            Bound::RunningOver => 303,
+            Bound::DoneUnder => 304,
+            Bound::DoneOver => 305,
+        }
     }
 }
 
-fn magic_number(x: Magic) -> u16
-    ensures { result ≡ magic_number x }
-{
-    match x {
-        Magic::First => 401,
-        Magic::Second => 402,
-        Magic::Last => 403,
+impl Magic {
+    fn number(self) -> u16
+        ensures { result ≡ magic_number self }
+    {
+        match self {
+            Magic::First => 401,
+            Magic::Second => 402,
+            Magic::Last => 403,
+        }
     }
 }
 
-fn numbers_number(x: Numbers) -> u16
-    ensures { result ≡ numbers_number x }
-{
-    match x {
-        Numbers::TotalZero => 1001,
-        Numbers::TotalPast => 1002,
-        Numbers::NumberPast => 1003,
+impl Numbers {
+    fn number(self) -> u16
+        ensures { result ≡ numbers_number self }
+    {
+        match self {
+            Numbers::TotalZero => 1001,
+            Numbers::TotalPast => 1002,
+            Numbers::NumberPast => 1003,
+        }
     }
 }
 
-fn address_number(x: Address) -> u16
-    ensures { result ≡ address_number x }
-{
-    match x {
-        Address::Below => 1101,
-        Address::Ragged => 1102,
-        Address::Past => 1103,
-        Address::PastWindow => 1104,
-        Address::NoWindow => 1105,
+impl Address {
+    fn number(self) -> u16
+        ensures { result ≡ address_number self }
+    {
+        match self {
+            Address::Below => 1101,
+            Address::Ragged => 1102,
+            Address::Past => 1103,
+            Address::PastWindow => 1104,
+            Address::NoWindow => 1105,
+        }
     }
 }
 
-fn not_kept_number(x: NotKept) -> u16
-    ensures { result ≡ not_kept_number x }
-{
-    match x {
-        NotKept::NoRegion => 1401,
-        NotKept::InRam => 1402,
-        NotKept::Ragged => 1403,
-        NotKept::Empty => 1404,
-        NotKept::OutsidePlace => 1405,
-        NotKept::NotAround => 1406,
-        NotKept::OtherDigest => 1407,
+impl NotKept {
+    fn number(self) -> u16
+        ensures { result ≡ not_kept_number self }
+    {
+        match self {
+            NotKept::NoRegion => 1401,
+            NotKept::InRam => 1402,
+            NotKept::Ragged => 1403,
+            NotKept::Empty => 1404,
+            NotKept::OutsidePlace => 1405,
+            NotKept::NotAround => 1406,
+            NotKept::OtherDigest => 1407,
+        }
     }
 }
 
@@ -216,19 +221,19 @@ impl Cause {
         ensures { result ≡ cause_number self }
     {
         match self {
-            Cause::BadBuffers(x) => length_number(x),
+            Cause::BadBuffers(x) => x.number(),
             Cause::BadSettings(x) => x.number(),
-            Cause::BadState(x) => bound_number(x),
-            Cause::NotBlock(x) => magic_number(x),
+            Cause::BadState(x) => x.number(),
+            Cause::NotBlock(x) => x.number(),
             Cause::Container => 501,
             Cause::NoFamily => 701,
             Cause::NoPlace(x) => x.number(),
             Cause::BadPayload => 901,
-            Cause::BadNumbers(x) => numbers_number(x),
-            Cause::BadAddress(x) => address_number(x),
+            Cause::BadNumbers(x) => x.number(),
+            Cause::BadAddress(x) => x.number(),
             Cause::Finished => 1201,
             Cause::Again => 1301,
-            Cause::Written(x) => not_kept_number(x),
+            Cause::Written(x) => x.number(),
             Cause::Completed => 1501,
             Cause::Noted => 1601,
             Cause::Kept => 1701,
@@ -249,29 +254,30 @@ impl Reason {
 }
 
 // This check decides.
-pub fn decides(cause: Cause, got: u64, against: u64) -> Row
-    ensures { result ≡ Row.Decides (reason_with cause got against) }
+pub fn decides(cause: Cause, got: u64, against: u64) -> Result<(), Reason>
+    ensures { result ≡ Err (reason_with cause got against) }
 {
-    Row::Decides(Reason::new(cause, got, against))
+    Err(Reason::new(cause, got, against))
 }
 
 // Row 3: this bound is not kept.
-fn bad_state(x: Bound, got: u32, against: u32) -> Row
-    ensures { result ≡ Row.Decides (reason_with (Cause.BadState x) got against) }
+fn bad_state(x: Bound, got: u32, against: u32) -> Result<(), Reason>
+    ensures { result ≡ Err (reason_with (Cause.BadState x) got against) }
 {
     decides(Cause::BadState(x), got as u64, against as u64)
 }
 
 // Row 4: this magic number differs.
-fn not_block(x: Magic, got: u32, against: u32) -> Row
-    ensures { result ≡ Row.Decides (reason_with (Cause.NotBlock x) got against) }
+fn not_block(x: Magic, got: u32, against: u32) -> Result<(), Reason>
+    ensures { result ≡ Err (reason_with (Cause.NotBlock x) got against) }
 {
     decides(Cause::NotBlock(x), got as u64, against as u64)
 }
 
 // ---- row 3
 
-fn running_row(run: Run) -> Row
+#[tactic(auto, unfolding(crate::specs::Checks::row_of, crate::specs::Checks::running_row))]
+fn running_row(run: Run) -> Result<(), Reason>
     ensures { result ≡ row_of by_numbers (running_row run) }
 {
     let total = run.head.total;
@@ -285,10 +291,11 @@ fn running_row(run: Run) -> Row
     if Transfer::LIMIT < total {
         return bad_state(Bound::RunningOver, total, Transfer::LIMIT);
     }
-    Row::Passes
+    Ok(())
 }
 
-fn done_row(head: Head) -> Row
+#[tactic(auto, unfolding(crate::specs::Checks::row_of, crate::specs::Checks::done_row))]
+fn done_row(head: Head) -> Result<(), Reason>
     ensures { result ≡ row_of by_numbers (done_row head) }
 {
     let total = head.total;
@@ -298,16 +305,16 @@ fn done_row(head: Head) -> Row
     if Transfer::LIMIT < total {
         return bad_state(Bound::DoneOver, total, Transfer::LIMIT);
     }
-    Row::Passes
+    Ok(())
 }
 
 // Row 3.
-pub fn state_row(transfer: Transfer) -> Row
+#[tactic(auto, unfolding(crate::specs::Checks::row_of, crate::specs::Checks::state_row))]
+pub fn state_row(transfer: Transfer) -> Result<(), Reason>
     ensures { result ≡ row_of by_numbers (state_row transfer.state) }
 {
-    let state = transfer.state;
-    match state {
-        State::Idle => Row::Passes,
+    match transfer.state {
+        State::Idle => Ok(()),
         State::Running(run) => running_row(run),
         State::Done(head) => done_row(head),
     }
@@ -315,7 +322,8 @@ pub fn state_row(transfer: Transfer) -> Row
 
 // ---- rows 4 to 7
 
-fn magic_row(first: u32, second: u32, last: u32) -> Row
+#[tactic(auto, unfolding(crate::specs::Checks::row_of, crate::specs::Checks::magic_row))]
+fn magic_row(first: u32, second: u32, last: u32) -> Result<(), Reason>
     ensures { result ≡ row_of by_numbers (magic_row first second last) }
 {
     if first != Block::MAGIC_FIRST {
@@ -327,10 +335,11 @@ fn magic_row(first: u32, second: u32, last: u32) -> Row
     if last != Block::MAGIC_LAST {
         return not_block(Magic::Last, last, Block::MAGIC_LAST);
     }
-    Row::Passes
+    Ok(())
 }
 
-fn flags_row(flags: u32) -> Row
+#[tactic(auto, unfolding(crate::specs::Checks::row_of, crate::specs::Checks::flags_row))]
+fn flags_row(flags: u32) -> Result<(), Reason>
     ensures { result ≡ row_of by_numbers (flags_row flags) }
 {
     if flags / Block::FLAG_CONTAINER % 2 == 1 {
@@ -339,20 +348,17 @@ fn flags_row(flags: u32) -> Row
     if flags / Block::FLAG_FAMILY % 2 != 1 {
         return decides(Cause::NoFamily, flags as u64, Block::FLAG_FAMILY as u64);
     }
-    Row::Passes
+    Ok(())
 }
 
 // Rows 4 to 7.
-pub fn header_row(arrival: &[u8]) -> Row
+pub fn header_row(arrival: &[u8]) -> Result<(), Reason>
     ensures { result ≡ row_of by_numbers (header_row arrival.now) }
 {
-    let r = magic_row(
+    magic_row(
         uf2_block::field(arrival, 0),
         uf2_block::field(arrival, 4),
         uf2_block::field(arrival, 508),
-    );
-    if let Row::Decides(x) = r {
-        return Row::Decides(x);
-    }
+    )?;
     flags_row(uf2_block::field(arrival, 8))
 }

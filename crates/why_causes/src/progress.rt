@@ -9,59 +9,41 @@ use transfer::{Head, State, Transfer};
 pub fn is_done(transfer: Transfer) -> bool
     ensures { result ≡ is_done transfer.state }
 {
-    let state = transfer.state;
-    match state {
-        State::Idle => false,
-        State::Running(_) => false,
-        State::Done(_) => true,
-    }
+    matches!(transfer.state, State::Done(_))
 }
 
 // Does the block belong to the running transfer, with a number that is marked?
+#[tactic(auto, unfolding(transfer::specs::Transfer::same_head))]
 pub fn is_again(transfer: Transfer, head: Head, marked: bool) -> bool
     ensures { result ≡ is_again transfer.state head marked }
 {
-    let state = transfer.state;
-    match state {
-        State::Idle => false,
-        State::Running(run) => {
-            let current = run.head;
-            transfer::same_head(current, head) & marked
-        }
-        State::Done(_) => false,
+    if let State::Running(run) = transfer.state {
+        (run.head == head) & marked
+    } else {
+        false
     }
 }
 
 // The count once the block is counted; where it begins a transfer it is the first. It may not fit 32 bits.
+#[tactic(auto, unfolding(crate::specs::Progress::raised_of, transfer::specs::Transfer::same_head))]
 pub fn raised(transfer: Transfer, head: Head) -> u64
     ensures { result ≡ raised_of transfer.state head }
 {
-    let state = transfer.state;
-    match state {
-        State::Idle => 1,
-        State::Running(run) => {
-            let current = run.head;
-            if transfer::same_head(current, head) {
-                return run.count as u64 + 1;
-            }
-            1
-        }
-        State::Done(_) => 1,
+    match transfer.state {
+        State::Running(run) if run.head == head => run.count as u64 + 1,
+        _ => 1,
     }
 }
 
 // Does a transfer of another head run?
+#[tactic(auto, unfolding(transfer::specs::Transfer::same_head))]
 fn runs_other(transfer: Transfer, head: Head) -> bool
     ensures { result ≡ runs_other transfer.state head }
 {
-    let state = transfer.state;
-    match state {
-        State::Idle => false,
-        State::Running(run) => {
-            let current = run.head;
-            !transfer::same_head(current, head)
-        }
-        State::Done(_) => false,
+    if let State::Running(run) = transfer.state {
+        run.head != head
+    } else {
+        false
     }
 }
 

@@ -1,13 +1,12 @@
 -- Rows 9 to 17 of a block, each check with the numbers that it tests, and what the checks from 12 on ask of the transfer and the block (02, L6).
 -- Assumes nothing.
-use Rattle.std.specs.Prelude.{ℕ, ◌+◌, ◌-◌, ◌%◌, Bool, ◌&&◌, not, cond, List, [], ◌∷◌, leb, eqb}
+use Rattle.std.specs.Prelude.{ℕ, ◌+◌, ◌-◌, ◌%◌, Bool, ◌&&◌, not, cond, List, [], ◌∷◌, leb, eqb, Option, Some, None}
 use Rattle.uf2_block.specs.Block.{field_at, has_flag}
 use Rattle.uf2_block.specs.Region.{region_of}
 use Rattle.uf2_block.specs.declared.Block.{Block}
 use Rattle.uf2_block.specs.declared.Region.{Region}
 use Rattle.uf2_block.specs.Regions.{stands_in}
 use Rattle.placement.specs.declared.Place.{Place}
-use Rattle.placement.specs.declared.Place.TheVariants.{Nowhere, At}
 use Rattle.transfer.specs.Transfer.{same_kind}
 use Rattle.transfer.specs.declared.Kind.{Kind}
 use Rattle.transfer.specs.declared.Kind.TheVariants.{Flash, MainRam, XipRam}
@@ -29,16 +28,16 @@ pub use Rattle.why_causes.specs.Progress.{is_done, is_again, runs_other}
 -- ---- rows 9 to 11
 
 -- where a place starts, and its bytes; where there is none row 8 decides, and nothing asks for them
-abbrev pub start_at : Place → ℕ
-start_at Nowhere = 0
-start_at (At start size) = start
+abbrev pub start_at : Option Place → ℕ
+start_at None = 0
+start_at (Some p) = p.start
 
-abbrev pub size_at : Place → ℕ
-size_at Nowhere = 0
-size_at (At start size) = size
+abbrev pub size_at : Option Place → ℕ
+size_at None = 0
+size_at (Some p) = p.len
 
 -- the bytes of the place, or "in RAM check 10 uses the window" (02, L8)
-abbrev pub room_of : Place → Kind → ℕ
+abbrev pub room_of : Option Place → Kind → ℕ
 room_of p Flash = size_at p
 room_of p MainRam = extent_of MainRam
 room_of p XipRam = extent_of XipRam

@@ -11,45 +11,40 @@ use memory::flash::Flash;
 use placement::Place;
 use transfer::{Head, Kind, Transfer};
 use uf2_block::{Block, Region};
-use uf2_checks::{Lengths, Window};
-use why_causes::{Cause, NotKept, Reason, Row};
+use uf2_checks::Lengths;
+use why_causes::{Cause, NotKept, Reason};
 
 // Where the address window begins, which is where a place's first byte is seen.
 const WINDOW: usize = 0x10000000;
 
 // ---- rows 9 to 11
 
-fn start_at(place: Place) -> usize
+fn start_at(place: Option<Place>) -> usize
     ensures { result ≡ start_at place }
 {
-    match place {
-        Place::Nowhere => 0,
-        Place::At { start, len: _ } => start,
-    }
+    place.map_or(0, |p| p.start)
 }
 
-fn size_at(place: Place) -> usize
+fn size_at(place: Option<Place>) -> usize
     ensures { result ≡ size_at place }
 {
-    match place {
-        Place::Nowhere => 0,
-        Place::At { start: _, len } => len,
-    }
+    place.map_or(0, |p| p.len)
 }
 
 // The bytes that row 10 asks for: of the place, or of the window.
-pub fn room_of(place: Place, kind: Kind) -> usize
+pub fn room_of(place: Option<Place>, kind: Kind) -> usize
     ensures { result ≡ room_of place kind }
 {
     match kind {
         Kind::Flash => size_at(place),
-        Kind::MainRam => Window::MAIN_RAM,
-        Kind::XipRam => Window::XIP_RAM,
+        Kind::MainRam => Lengths::MAIN_RAM,
+        Kind::XipRam => Lengths::XIP_RAM,
     }
 }
 
 // Rows 9 to 11; of a comment row 10 alone.
-pub fn body_row(size: usize, lens: Lengths, b: Block) -> Row
+#[tactic(auto, unfolding(crate::specs::Block::body_row))]
+pub fn body_row(size: usize, lens: Lengths, b: Block) -> Result<(), Reason>
     ensures { result ≡ row_of by_numbers (body_row size lens b) }
 {
     if b.comment {
@@ -60,6 +55,7 @@ pub fn body_row(size: usize, lens: Lengths, b: Block) -> Row
 }
 
 // The kind of a block.
+#[tactic(auto, unfolding(crate::specs::Block::kind_of))]
 pub fn kind_of(lens: Lengths, transfer: Transfer, b: Block) -> Kind
     ensures { result ≡ kind_of lens transfer.state b }
 {
@@ -73,7 +69,14 @@ pub fn kind_of(lens: Lengths, transfer: Transfer, b: Block) -> Kind
 // ---- rows 12 to 17
 
 // Rows 12, 13, 15 and 16.
-fn fate_row(transfer: Transfer, head: Head, number: u32, marked: bool, comment: bool) -> Row
+#[tactic(auto, unfolding(crate::specs::Parts::fate_part))]
+fn fate_row(
+    transfer: Transfer,
+    head: Head,
+    number: u32,
+    marked: bool,
+    comment: bool,
+) -> Result<(), Reason>
     ensures { result ≡ fate_part transfer.state head number marked comment }
 {
     let total = head.total as u64;
@@ -90,7 +93,7 @@ fn fate_row(transfer: Transfer, head: Head, number: u32, marked: bool, comment: 
     if comment {
         return why_causes::decides(Cause::Noted, count, total);
     }
-    Row::Passes
+    Ok(())
 }
 
 // Does a region lie in a place of so many bytes?
@@ -98,12 +101,7 @@ fn is_within(region: Region, size: usize) -> bool
     ensures { result ≡ within size region }
 {
     let start = region.start as usize;
-    let len = region.len as usize;
-    if start < WINDOW {
-        return false;
-    }
-    let past = start - WINDOW + len;
-    past <= size
+    WINDOW <= start && start - WINDOW + region.len as usize <= size
 }
 
 // Does it lie around a block at this address?
@@ -117,13 +115,14 @@ fn is_around(region: Region, address: u32) -> bool
 }
 
 // Row 14.
-fn not_kept(x: NotKept, count: u64, total: u64) -> Row
-    ensures { result ≡ Row.Decides (reason_with (Cause.Written x) count total) }
+fn not_kept(x: NotKept, count: u64, total: u64) -> Result<(), Reason>
+    ensures { result ≡ Err (reason_with (Cause.Written x) count total) }
 {
     why_causes::decides(Cause::Written(x), count, total)
 }
 
 // Why a region's block is written and not kept, in a place of `size` bytes that starts at `start`.
+#[tactic(auto, unfolding(crate::specs::Parts::region_part))]
 fn region_row(
     flash: &[u8],
     start: usize,
@@ -132,7 +131,7 @@ fn region_row(
     region: Region,
     count: u64,
     total: u64,
-) -> Row
+) -> Result<(), Reason>
     ensures { result ≡ region_part flash.now start size address region count total }
 {
     let from = region.start as usize;
@@ -152,10 +151,11 @@ fn region_row(
     if !uf2_block::regions::stands(flash, start, region) {
         return not_kept(NotKept::OtherDigest, count, total);
     }
-    Row::Passes
+    Ok(())
 }
 
 // Why a block is written and not kept.
+#[tactic(auto, using(transfer::proofs::Laws::kinds_are), unfolding(crate::specs::Parts::written_part))]
 fn written_row(
     flash: &[u8],
     start: usize,
@@ -164,13 +164,13 @@ fn written_row(
     arrival: &[u8],
     count: u64,
     total: u64,
-) -> Row
+) -> Result<(), Reason>
     ensures { result ≡ written_part flash.now start size kind arrival.now count total }
 {
     if !uf2_block::has_region(arrival) {
         return not_kept(NotKept::NoRegion, count, total);
     }
-    if !transfer::same_kind(kind, Kind::Flash) {
+    if kind != Kind::Flash {
         return not_kept(NotKept::InRam, count, total);
     }
     let region = uf2_block::read_region(arrival);
@@ -179,10 +179,11 @@ fn written_row(
 }
 
 // Rows 12 to 17.
+#[tactic(auto, unfolding(crate::specs::Parts::late_part))]
 pub fn late(
     transfer: Transfer,
     head: Head,
-    place: Place,
+    place: Option<Place>,
     comment: bool,
     number: u32,
     arrival: &[u8],
@@ -192,17 +193,14 @@ pub fn late(
     ensures { result ≡ late_part transfer.state head place comment number arrival.now flash.now seen.now }
 {
     let marked = memory::bitmap::marked(seen, number as usize);
-    let fate = fate_row(transfer, head, number, marked, comment);
-    if let Row::Decides(x) = fate {
+    if let Err(x) = fate_row(transfer, head, number, marked, comment) {
         return x;
     }
     let count = why_causes::progress::raised(transfer, head);
     let total = head.total as u64;
-    let kind = head.kind;
     let start = start_at(place);
     let size = size_at(place);
-    let written = written_row(flash, start, size, kind, arrival, count, total);
-    if let Row::Decides(y) = written {
+    if let Err(y) = written_row(flash, start, size, head.kind, arrival, count, total) {
         return y;
     }
     Reason::new(Cause::Kept, count, total)

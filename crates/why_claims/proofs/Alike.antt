@@ -1,4 +1,5 @@
 -- The claim of specs/Alike.antt holds. Assumes nothing.
+use Rattle.std.specs.Prelude.{Option, None, Some, Result, Ok, Err}
 use Prim.Native.Nat.{ℕ, zero, suc, ◌<◌}
 use mathlib.Core.Path.{◌≡◌, refl, sym, ap, ◌∙◌}
 use mathlib.Core.Bool.{Bool, false, cond, not, ◌&&◌}
@@ -8,6 +9,7 @@ use native.Mathlib.Nat.{le_refl, le_step}
 use lib.Dec.{ltb, eqb}
 use lib.ListN.{get_or, length}
 use borrow.Author.Tests.{ltb-true}
+use Rattle.std.specs.Prelude.{Option}
 use Rattle.laws.specs.Sets.{Set, one, least}
 use Rattle.laws.specs.Tab.{tab}
 use Rattle.laws.proofs.Laws.{any_cong}
@@ -28,14 +30,10 @@ use Rattle.placement.proofs.Alike.{takes_alike, query_alike, looked, alike_place
 use Rattle.why_settings.specs.Faults.{fault_in, each, sharing, condition_at, condition_for, used_of, faults_of, first_in, first_fault, slot_at, first_reserved, end_of, told, tested_of, finding_number}
 use Rattle.why_settings.specs.declared.Fault.{Fault}
 use Rattle.why_settings.specs.declared.Fault.TheVariants.{ArchOff, CountOver, NoSectors, PastFlash, Shares, LinksUp, LinksToB, ManyUsers, ReservedUser}
-use Rattle.why_settings.specs.declared.Finding.{Finding}
-use Rattle.why_settings.specs.declared.Finding.TheVariants.{Sound, Bad}
 use Rattle.why_settings.proofs.Laws.{each_all}
 use Rattle.why_causes.specs.Checks.{or_next}
 use Rattle.why_causes.specs.declared.Cause.{Cause}
 use Rattle.why_causes.specs.declared.Cause.TheVariants.{BadBuffers, BadSettings, BadState, NotBlock, Container, NoFamily, NoPlace, BadPayload, BadNumbers, BadAddress, Finished, Again, Written, Completed, Noted, Kept}
-use Rattle.why_causes.specs.declared.Row.{Row}
-use Rattle.why_causes.specs.declared.Row.TheVariants.{Passes, Decides}
 use Rattle.why_place.specs.Placing.{denies, takes_at, first_denial, flash_denials, ram_denials, flash_access, ram_access, mark_of, marks_of, taken_in, pass_has, pass_of, entry_in, table_spot, granted_spot}
 use Rattle.why_place.specs.declared.Denial.{Denial}
 use Rattle.why_place.specs.declared.Denial.TheVariants.{AbsoluteOff, Rp2040, ArmOff, RiscvOff, NotWithoutTable, NoEntry, NotForRam}
@@ -45,12 +43,13 @@ use Rattle.arrival.specs.Arrive.{World, lengths_of}
 use Rattle.why.specs.Checklist.{fault_reason, block_kind, place_in, reason_of}
 use Rattle.why.specs.Parts.{finding_row, access_in, board_part, early_part, block_part, place_part}
 use Rattle.why.proofs.Rows.{reason_parts}
-use Rattle.why.specs.declared.PlaceOrigin.{PlaceOrigin}
-use Rattle.why.specs.declared.PlaceOrigin.TheVariants.{Refused, Whole, Entry}
+use Rattle.why_place.specs.declared.Origin.{Origin}
+use Rattle.why_place.specs.declared.Origin.TheVariants.{Whole, Entry}
 use Rattle.why.specs.Why.{denial_marks, entries_of, why_of}
 use Rattle.why.specs.Placed.{placed_of, placed_marks, why_place_of}
 use Rattle.why.proofs.Laws.{place_parts}
 use Rattle.why_claims.specs.Alike.{AlikeSettingsExplainAlike}
+use Rattle.why_causes.specs.declared.Reason.{Reason}
 
 -- ---- row 2
 
@@ -81,10 +80,10 @@ rows_join s len (x ∷ l) m = split (fault_in s len x) (λ y. rw y) (λ z. rw z 
 
 module _ (s t : Settings) (h : Alike s t) (len : ℕ) where
   -- row 2 of some of the faults
-  abbrev of_first : List Fault → Row
+  abbrev of_first : List Fault → Result (Unit {0}) Reason
   of_first l = finding_row s len (first_in s len l)
 
-  abbrev of_second : List Fault → Row
+  abbrev of_second : List Fault → Result (Unit {0}) Reason
   of_second l = finding_row t len (first_in t len l)
 
   abbrev Same : List Fault → Type 0
@@ -106,15 +105,15 @@ module _ (s t : Settings) (h : Alike s t) (len : ℕ) where
   single x e q = before x [] e q none
 
   -- faults before others, which need to be the same only where none of these is found
-  after : (l m : List Fault) → Same l → (first_in s len l ≡ Sound → Same m) → Same (l ++ m)
+  after : (l m : List Fault) → Same l → (first_in s len l ≡ None → Same m) → Same (l ++ m)
   after l m e f = rows_join s len l m ∙ (by-case (first_in s len l) refl ∙ sym (rows_join t len l m))
     where
-      by-case : (x : Finding) → first_in s len l ≡ x → or_next (of_first l) (of_first m) ≡ or_next (of_second l) (of_second m)
-      by-case Sound q =
-          let p : of_second l ≡ Passes = sym e ∙ ap (finding_row s len) q in
+      by-case : (x : Option Fault) → first_in s len l ≡ x → or_next (of_first l) (of_first m) ≡ or_next (of_second l) (of_second m)
+      by-case None q =
+          let p : of_second l ≡ Ok tt = sym e ∙ ap (finding_row s len) q in
           rw (q, p) (f q)
-      by-case (Bad x) q =
-          let p : of_second l ≡ Decides (fault_reason s len x) = sym e ∙ ap (finding_row s len) q in
+      by-case (Some x) q =
+          let p : of_second l ≡ Err (fault_reason s len x) = sym e ∙ ap (finding_row s len) q in
           rw (q, p)
 
   each_same : (g : ℕ → List Fault) (n : ℕ) → ((k : ℕ) → k < n → Same (g k)) → Same (each g n)
@@ -163,19 +162,19 @@ module _ (s t : Settings) (h : Alike s t) (len : ℕ) where
       (λ k l. single (LinksUp k) (up_alike s.table t.table (used_of s) at k l) (ap (λ (x : ℕ). told x k) (link_alike k l)))
 
   -- no link goes up where none of the first four conditions is found
-  no_up : first_in s len (each (condition_for (used_of s)) 4) ≡ Sound → (k : ℕ) → k < used_of s → links_up s.table k ≡ false
+  no_up : first_in s len (each (condition_for (used_of s)) 4) ≡ None → (k : ℕ) → k < used_of s → links_up s.table k ≡ false
   unfolding condition_for condition_at first_in
   no_up e k l =
-      let u : first_in s len (condition_for (used_of s) 3) ≡ Sound = each_all s len (condition_for (used_of s)) 4 e 3 (omega arith) in
-      let v : first_in s len (condition_at (used_of s) 3 k) ≡ Sound = each_all s len (condition_at (used_of s) 3) (used_of s) u k l in
+      let u : first_in s len (condition_for (used_of s) 3) ≡ None = each_all s len (condition_for (used_of s)) 4 e 3 (omega arith) in
+      let v : first_in s len (condition_at (used_of s) 3 k) ≡ None = each_all s len (condition_at (used_of s) 3) (used_of s) u k l in
       split (links_up s.table k)
       (λ y.
-      let z : Bad (LinksUp k) ≡ Sound = rw y at v in
+      let z : Some (LinksUp k) ≡ None = rw y at v in
       let c : ◌≡◌ {A = ℕ} 206 0 = ap finding_number z in
       absurd (omega arith))
       (λ z. z)
 
-  rule_4 : first_in s len (each (condition_for (used_of s)) 4) ≡ Sound → Same (condition_for (used_of s) 4)
+  rule_4 : first_in s len (each (condition_for (used_of s)) 4) ≡ None → Same (condition_for (used_of s) 4)
   unfolding condition_for condition_at
   rule_4 e =
       each_same (condition_at (used_of s) 4) (used_of s)
@@ -318,7 +317,7 @@ module _ (s t : Settings) (h : Alike s t) where
   unfolding early_part board_part
   early_alike x a n m k = rw (faults_alike s t h n.flash)
 
-  block_alike : (p : Place) (k : Kind) (n : Lengths) (b : Block) → block_part s p k n b ≡ block_part t p k n b
+  block_alike : (p : Option Place) (k : Kind) (n : Lengths) (b : Block) → block_part s p k n b ≡ block_part t p k n b
   unfolding block_part
   block_alike p k n b = rw (access_alike s t h b.family k)
 
@@ -342,10 +341,10 @@ module _ (s t : Settings) (h : Alike s t) where
   placed_alike len f =
       rw (place_parts s len f, place_parts t len f, faults_alike s t h len, access_alike s t h f Flash, spot_alike s t h f)
 
-  marked_alike : (f : ℕ) (x : PlaceOrigin) → placed_marks s f x ≡ placed_marks t f x
-  marked_alike f (Refused x) = entries_alike s t h f x.cause
-  marked_alike f (Whole r) = refl
-  marked_alike f (Entry p k) = refl
+  marked_alike : (f : ℕ) (x : Result Origin Reason) → placed_marks s f x ≡ placed_marks t f x
+  marked_alike f (Err x) = entries_alike s t h f x.cause
+  marked_alike f (Ok (Whole r)) = refl
+  marked_alike f (Ok (Entry p k)) = refl
 
 pub alike_settings_explain_alike : AlikeSettingsExplainAlike
 unfolding AlikeSettingsExplainAlike why_place_of

@@ -1,4 +1,5 @@
 -- The answer of a row, or of what comes after it: rows 1, 3 and 9 to 11 beside the receiver's tests. Assumes nothing.
+use Rattle.std.specs.Prelude.{Result, Ok, Err}
 use mathlib.Core.Path.{◌≡◌, refl, sym, ap, ◌∙◌}
 use mathlib.Core.Bool.{Bool, true, false, cond, not, ◌&&◌, ◌||◌}
 use mathlib.Core.List.{List, [], ◌∷◌}
@@ -6,6 +7,7 @@ use Prim.Native.Nat.{ℕ, ◌+◌, ◌-◌, ◌*◌, ◌%◌, ◌≤◌}
 use native.Mathlib.Omega.{arith}
 use lib.Dec.{ltb, leb, eqb}
 use borrow.Author.Tests.{leb-true, leb-false, ltb-true, ltb-false, le-leb, lt-leb, le-ltb, lt-ltb}
+use Rattle.std.specs.Prelude.{Some, None}
 use Rattle.laws.proofs.Tests.{split, clash}
 use Rattle.memory.specs.Flash.{flash_length}
 use Rattle.uf2_block.specs.declared.Block.{Block}
@@ -16,10 +18,8 @@ use Rattle.transfer.specs.declared.State.{State}
 use Rattle.transfer.specs.declared.State.TheVariants.{Idle, Running, Done}
 use Rattle.transfer.specs.declared.Answer.{Answer}
 use Rattle.transfer.specs.declared.Answer.TheVariants as answer
-use Rattle.uf2_checks.specs.Screen.{base_of, extent_of, in_window, window_of, bad_numbers, bad_address}
+use Rattle.uf2_checks.specs.Screen.{base_of, extent_of, in_window, window_of, bad_numbers, bad_address, Window}
 use Rattle.uf2_checks.specs.declared.Lengths.{Lengths}
-use Rattle.uf2_checks.specs.declared.Window.{Window}
-use Rattle.uf2_checks.specs.declared.Window.TheVariants.{Outside, In}
 use Rattle.uf2_checks.proofs.Windows.{WindowFacts, window_facts}
 use Rattle.arrival.specs.Arrive.{ram_length, right_lengths}
 use Rattle.why_causes.specs.Causes.{answer_of}
@@ -27,18 +27,16 @@ use Rattle.why_causes.specs.Checks.{by_numbers, row_of, or_next, running_row, do
 use Rattle.why_causes.specs.Lengths.{flash_row, buffer_row, lengths_row}
 use Rattle.why_causes.specs.Numbers.{payload_row, numbers_row, address_row, stray_row, window_row}
 use Rattle.why_causes.specs.declared.Reason.{Reason}
-use Rattle.why_causes.specs.declared.Row.{Row}
-use Rattle.why_causes.specs.declared.Row.TheVariants.{Passes, Decides}
 use Rattle.why_checks.specs.Block.{address_in}
 
 -- the answer of a row that decides, or else y
-abbrev pub told : Row → Answer → Answer
-told Passes y = y
-told (Decides x) y = answer_of x.cause
+abbrev pub told : Result (Unit {0}) Reason → Answer → Answer
+told (Ok u) y = y
+told (Err x) y = answer_of x.cause
 
-pub told_next : (p q : Row) (y : Answer) → told (or_next p q) y ≡ told p (told q y)
-told_next Passes q y = refl
-told_next (Decides x) q y = refl
+pub told_next : (p q : Result (Unit {0}) Reason) (y : Answer) → told (or_next p q) y ≡ told p (told q y)
+told_next (Ok u) q y = refl
+told_next (Err x) q y = refl
 
 -- a check of the list holds
 abbrev pub any_holds : (Reason → Bool) → List Reason → Bool
@@ -56,7 +54,7 @@ unfolding row_of
 row_answer test x [] h y = refl
 row_answer test x (c ∷ l) h y = by-case (test c) (row_of test l) (row_answer test x l h.1 y)
   where
-    by-case : (b : Bool) (r : Row) → told r y ≡ cond (any_holds test l) x y → told (cond b (Decides c) r) y ≡ cond (b || any_holds test l) x y
+    by-case : (b : Bool) (r : Result (Unit {0}) Reason) → told r y ≡ cond (any_holds test l) x y → told (cond b (Err c) r) y ≡ cond (b || any_holds test l) x y
     by-case true r k = h.0
     by-case false r k = k
 
@@ -176,15 +174,15 @@ address_answer size b y =
     (or_three (ltb b.address (base_of Flash)) (not (eqb (b.address % 256) 0)) (ltb size (b.address - base_of Flash + 256)))
 
 -- an address in no window is in none
-pub in_none : (n : Lengths) (x : ℕ) → window_of n x ≡ Outside → (k : Kind) → in_window n k x ≡ false
+pub in_none : (n : Lengths) (x : ℕ) → window_of n x ≡ None → (k : Kind) → in_window n k x ≡ false
 in_none n x e = out (window_of n x) e (window_facts n x)
   where
-    out : (u : Window) → u ≡ Outside → WindowFacts n x u → (k : Kind) → in_window n k x ≡ false
-    out Outside e f = f
-    out (In k) e f = let z : ◌≡◌ {A = ℕ} 0 1 = cc in absurd (omega arith)
+    out : (u : Window) → u ≡ None → WindowFacts n x u → (k : Kind) → in_window n k x ≡ false
+    out None e f = f
+    out (Some k) e f = let z : ◌≡◌ {A = ℕ} 0 1 = cc in absurd (omega arith)
 
 -- it is below the window of flash, or past it
-outside_strays : (n : Lengths) (x : ℕ) → window_of n x ≡ Outside → ltb x 0x10000000 || leb 0x12000000 x ≡ true
+outside_strays : (n : Lengths) (x : ℕ) → window_of n x ≡ None → ltb x 0x10000000 || leb 0x12000000 x ≡ true
 outside_strays n x e =
     split (ltb x 0x10000000) (λ y. rw y)
     (λ z.
@@ -195,7 +193,7 @@ outside_strays n x e =
     clash (in_window n Flash x) (rw (low, high)) (in_none n x e Flash)))
 
 -- of an address in no window row 11 always decides
-pub stray_answer : (n : Lengths) (b : Block) → window_of n b.address ≡ Outside → (y : Answer) → told (row_of by_numbers (stray_row b.address)) y ≡ answer.BadAddress
+pub stray_answer : (n : Lengths) (b : Block) → window_of n b.address ≡ None → (y : Answer) → told (row_of by_numbers (stray_row b.address)) y ≡ answer.BadAddress
 unfolding stray_row
 stray_answer n b e y =
     row_is by_numbers answer.BadAddress (stray_row b.address) (refl, (refl, tt)) y (or_two (ltb b.address 0x10000000) (leb 0x12000000 b.address))

@@ -7,6 +7,7 @@ use native.Mathlib.Omega.{arith}
 use lib.Dec.{ltb, leb}
 use lib.ListN.{length}
 use borrow.Author.Tests.{ltb-true, ltb-false}
+use Rattle.std.specs.Prelude.{Some, None}
 use Rattle.laws.proofs.Tests.{split, and_left, and_right}
 use Rattle.uf2_block.specs.Block.{field_at, fields_of}
 use Rattle.uf2_block.specs.declared.Block.{Block}
@@ -21,10 +22,8 @@ use Rattle.transfer.specs.declared.Answer.{Answer}
 use Rattle.transfer.specs.declared.Answer.TheVariants as answer
 use Rattle.transfer.specs.declared.State.{State}
 use Rattle.transfer.specs.declared.State.TheVariants.{Idle, Running, Done}
-use Rattle.uf2_checks.specs.Screen.{window_of}
+use Rattle.uf2_checks.specs.Screen.{window_of, Window}
 use Rattle.uf2_checks.specs.declared.Lengths.{Lengths}
-use Rattle.uf2_checks.specs.declared.Window.{Window}
-use Rattle.uf2_checks.specs.declared.Window.TheVariants.{Outside, In}
 use Rattle.arrival.specs.Arrive.{World, Decision, lengths_of, accept_of, done, receive_of, Forecast}
 use Rattle.arrival.specs.Facts.{LookTells}
 use Rattle.arrival.proofs.Facts.{look_tells}
@@ -133,10 +132,10 @@ module _ (n t : ℕ) where
 
   page_tells : (u : Window) (z : ℕ) (b : Block) → Each (page_row u z b)
   unfolding page_row
-  page_tells Outside z b =
+  page_tells None z b =
       all_next (Tells n t) (payload_row b.size) _ (payload_tells b.size)
       (all_next (Tells n t) (stray_row b.address) _ (stray_tells b.address) (numbers_tell b.total b.number z))
-  page_tells (In k) z b =
+  page_tells (Some k) z b =
       all_next (Tells n t) (payload_row b.size) _ (payload_tells b.size)
       (all_next (Tells n t) (numbers_row b.total b.number z) _ (numbers_tell b.total b.number z) (in_tells k b.address z))
 

@@ -7,6 +7,7 @@ use native.Mathlib.Omega.{arith}
 use lib.Dec.{ltb, leb}
 use lib.ListN.{length}
 use borrow.Author.Tests.{lt-leb}
+use Rattle.std.specs.Prelude.{Ok, Err}
 use Rattle.laws.proofs.Tests.{split}
 use Rattle.memory.specs.Bitmap.{marked_in}
 use Rattle.uf2_block.specs.Block.{field_at, has_flag, fields_of}
@@ -21,10 +22,8 @@ use Rattle.transfer.specs.declared.State.{State}
 use Rattle.transfer.specs.declared.State.TheVariants.{Idle, Running, Done}
 use Rattle.transfer.specs.declared.Answer.{Answer}
 use Rattle.transfer.specs.declared.Answer.TheVariants as answer
-use Rattle.uf2_checks.specs.Screen.{window_of, window_kind, note_kind, screen_of}
+use Rattle.uf2_checks.specs.Screen.{window_of, window_kind, note_kind, screen_of, Screening}
 use Rattle.uf2_checks.specs.declared.PlacedBlock.{PlacedBlock}
-use Rattle.uf2_checks.specs.declared.Screening.{Screening}
-use Rattle.uf2_checks.specs.declared.Screening.TheVariants.{Refused, Passed}
 use Rattle.arrival.specs.Windows as windows
 use Rattle.arrival.specs.Arrive.{World, Forecast, stays, lengths_of, right_lengths, standing, deed_of, stepped, after_screening, decide, forecast_of, look_of}
 use Rattle.arrival_claims.proofs.Screening.{Good, screen_good, comment_is, kind_window, kind_note}
@@ -102,8 +101,8 @@ module _ (s : Settings) (w : World) (a : List ℕ) where
 
   screened : (kept : Bool) (x : Screening) → Good s w a x → Told w.transfer (head_in w a) (forecast_of (after_screening w.transfer w.seen kept x))
   unfolding after_screening
-  screened kept (Refused x) h = rw (low x h.1) refl
-  screened kept (Passed p) h =
+  screened kept (Err x) h = rw (low x h.1) refl
+  screened kept (Ok p) h =
       subst (λ (g : Head). Told w.transfer g (forecast_of (stepped p (deed_of kept p) (step_of w.transfer p.head (marked_in w.seen p.number) (deed_of kept p)))))
       (h.head ∙ ap (λ (k : Kind). head_with k (field_at a 28) (field_at a 24)) (sym kinds))
       (step_told w.transfer p (deed_of kept p) (marked_in w.seen p.number))

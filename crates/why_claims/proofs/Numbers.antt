@@ -1,4 +1,5 @@
 -- Each reason of rows 3 to 7 and 9 to 11 tells the numbers of its condition. Assumes nothing.
+use Rattle.std.specs.Prelude.{None, Some, Ok, Err}
 use Prim.Native.Nat.{ℕ, ◌+◌, ◌<◌}
 use mathlib.Core.Path.{◌≡◌, refl, sym, ap, subst, ◌∙◌}
 use mathlib.Core.Logic.{◌≢◌}
@@ -8,26 +9,23 @@ use native.Mathlib.Omega.{arith}
 use lib.Dec.{eqb}
 use lib.ListN.{length}
 use borrow.Author.Tests.{ltb-true, ltb-false, leb-true, leb-false, eqb-true, eqb-false, not-true, le-leb, lt-ltb, ne_eqb}
+use Rattle.std.specs.Prelude.{Option, Some, None}
 use Rattle.laws.proofs.Tests.{split, clash, is_false, and_left, and_right}
 use Rattle.uf2_block.specs.Block.{field_at, has_flag, fields_of}
 use Rattle.partitions.specs.declared.Settings.{Settings}
-use Rattle.placement.specs.Place.{place_of}
+use Rattle.placement.specs.Place.{place_of, place_from}
 use Rattle.placement.specs.declared.Place.{Place}
-use Rattle.placement.specs.declared.Place.TheVariants.{Nowhere, At}
 use Rattle.transfer.specs.declared.Kind.{Kind}
 use Rattle.transfer.specs.declared.Kind.TheVariants.{Flash, MainRam, XipRam}
 use Rattle.transfer.specs.declared.Head.{Head}
 use Rattle.transfer.specs.declared.State.{State}
 use Rattle.transfer.specs.declared.State.TheVariants.{Idle, Running, Done}
-use Rattle.uf2_checks.specs.Screen.{base_of, extent_of, in_window, window_of}
+use Rattle.uf2_checks.specs.Screen.{base_of, extent_of, in_window, window_of, Window}
 use Rattle.uf2_checks.specs.declared.Lengths.{Lengths}
 use Rattle.uf2_checks.proofs.Windows.{WindowFacts, window_facts}
-use Rattle.uf2_checks.specs.declared.Window.{Window}
-use Rattle.uf2_checks.specs.declared.Window.TheVariants.{Outside, In}
 use Rattle.arrival.specs.Arrive.{World, lengths_of}
 use Rattle.arrival.specs.Windows as windows
 use Rattle.why_settings.specs.Faults.{fault_in, faults_of, first_in, first_fault}
-use Rattle.why_settings.specs.declared.Finding.TheVariants.{Sound, Bad}
 use Rattle.why_settings.proofs.Theorems.{sound_is_good}
 use Rattle.partitions.specs.Settings.{good_settings}
 use Rattle.memory.specs.Bitmap.{marked_in}
@@ -38,7 +36,6 @@ use Rattle.why_checks.specs.Block.{is_done, is_again}
 use Rattle.why_settings.specs.declared.Fault.{Fault}
 use Rattle.why_place.specs.Placing.{denies, first_denial, flash_denials, ram_denials, flash_access}
 use Rattle.why_place.specs.declared.Denial.{Denial}
-use Rattle.why_place.specs.declared.Access.TheVariants.{Granted, Denied}
 use Rattle.why_place.proofs.Theorems.{granted_is_placed}
 use Rattle.why_causes.specs.Checks.{Deciding, none, here, later, running_row, done_row, state_row, magic_row, flags_row, header_row}
 use Rattle.why_causes.specs.declared.Cause.TheVariants.{Finished, Again}
@@ -86,12 +83,12 @@ neither : (x n : ℕ) → not (eqb x 0) && not (eqb x n) ≡ true → (x ≢ 0) 
 neither x n h = (differs x 0 (and_left (not (eqb x 0)) (not (eqb x n)) h), differs x n (and_right (not (eqb x 0)) (not (eqb x n)) h))
 
 -- settings with a fault are bad
-not_sound : (s : Settings) (len : ℕ) (before : List Fault) (x : Fault) (l : List Fault) → fault_in s len x ≡ true → first_in s len (before ++ (x ∷ l)) ≢ Sound
+not_sound : (s : Settings) (len : ℕ) (before : List Fault) (x : Fault) (l : List Fault) → fault_in s len x ≡ true → first_in s len (before ++ (x ∷ l)) ≢ None
 unfolding first_in
-not_sound s len [] x l h e = let g : Bad x ≡ Sound = rw h at e in let z : ◌≡◌ {A = ℕ} 0 1 = cc in omega arith
+not_sound s len [] x l h e = let g : Some x ≡ None = rw h at e in let z : ◌≡◌ {A = ℕ} 0 1 = cc in omega arith
 not_sound s len (y ∷ before) x l h e =
     split (fault_in s len y)
-    (λ t. let g : Bad y ≡ Sound = rw t at e in let z : ◌≡◌ {A = ℕ} 0 1 = cc in absurd (omega arith))
+    (λ t. let g : Some y ≡ None = rw t at e in let z : ◌≡◌ {A = ℕ} 0 1 = cc in absurd (omega arith))
     (λ t. not_sound s len before x l h (rw t at e))
 
 fault_bad : (s : Settings) (len : ℕ) (before : List Fault) (x : Fault) (l : List Fault) → faults_of s ≡ before ++ (x ∷ l) → fault_in s len x ≡ true → good_settings s len ≡ false
@@ -99,24 +96,24 @@ unfolding first_fault
 fault_bad s len before x l e h = is_false _ (λ g. not_sound s len before x l h (ap (first_in s len) (sym e) ∙ (sound_is_good s len).1 g))
 
 -- a family that a rule shuts out has no place
-not_granted : (s : Settings) (f : ℕ) (before : List Denial) (x : Denial) (l : List Denial) → denies s f x ≡ true → first_denial s f (before ++ (x ∷ l)) ≢ Granted
+not_granted : (s : Settings) (f : ℕ) (before : List Denial) (x : Denial) (l : List Denial) → denies s f x ≡ true → first_denial s f (before ++ (x ∷ l)) ≢ Ok tt
 unfolding first_denial
-not_granted s f [] x l h e = let g : Denied x ≡ Granted = rw h at e in let z : ◌≡◌ {A = ℕ} 0 1 = cc in omega arith
+not_granted s f [] x l h e = let g : Err x ≡ Ok tt = rw h at e in let z : ◌≡◌ {A = ℕ} 0 1 = cc in omega arith
 not_granted s f (y ∷ before) x l h e =
     split (denies s f y)
-    (λ t. let g : Denied y ≡ Granted = rw t at e in let z : ◌≡◌ {A = ℕ} 0 1 = cc in absurd (omega arith))
+    (λ t. let g : Err y ≡ Ok tt = rw t at e in let z : ◌≡◌ {A = ℕ} 0 1 = cc in absurd (omega arith))
     (λ t. not_granted s f before x l h (rw t at e))
 
-denied_nowhere : (s : Settings) (len f : ℕ) (before : List Denial) (x : Denial) (l : List Denial) → flash_denials ≡ before ++ (x ∷ l) → denies s f x ≡ true → place_of s len f ≡ Nowhere
+denied_nowhere : (s : Settings) (len f : ℕ) (before : List Denial) (x : Denial) (l : List Denial) → flash_denials ≡ before ++ (x ∷ l) → denies s f x ≡ true → place_of s len f ≡ None
 unfolding flash_access
 denied_nowhere s len f before x l e h = at (place_of s len f) refl
   where
-    at : (p : Place) → place_of s len f ≡ p → place_of s len f ≡ Nowhere
-    at Nowhere q = q
-    at (At start n) q =
+    at : (p : Option Place) → place_of s len f ≡ p → place_of s len f ≡ None
+    at None q = q
+    at (Some p) q =
         absurd
         (not_granted s f before x l h
-        (ap (first_denial s f) (sym e) ∙ (granted_is_placed s len f).1 (λ z. let g : At start n ≡ Nowhere = sym q ∙ z in let z1 : ◌≡◌ {A = ℕ} 0 1 = cc in omega arith)))
+        (ap (first_denial s f) (sym e) ∙ (granted_is_placed s len f).1 (λ z. let g : Some (place_from p.start p.len) ≡ None = sym q ∙ z in let z1 : ◌≡◌ {A = ℕ} 0 1 = cc in omega arith)))
 
 module _ (s : Settings) (w : World) (a : List ℕ) where
   abbrev Is : Reason → Type 0
@@ -192,7 +189,7 @@ module _ (s : Settings) (w : World) (a : List ℕ) where
   places MainRam e = ram_denials_lem (λ f. let g : MainRam ≡ Flash = sym e ∙ f in let z : ◌≡◌ {A = ℕ} 0 1 = cc in omega arith)
   places XipRam e = ram_denials_lem (λ f. let g : XipRam ≡ Flash = sym e ∙ f in let z : ◌≡◌ {A = ℕ} 0 1 = cc in omega arith)
 
-  granted : (l : List Denial) → Passed (holds_in s w a) (last_of w a) Is (denial_row (field_at a 28) l) → first_denial s (field_at a 28) l ≡ Granted
+  granted : (l : List Denial) → Passed (holds_in s w a) (last_of w a) Is (denial_row (field_at a 28) l) → first_denial s (field_at a 28) l ≡ Ok tt
   unfolding denial_row first_denial
   granted [] p = refl
   granted (x ∷ l) p = rw p.0 (granted l p.1)
@@ -202,9 +199,9 @@ module _ (s : Settings) (w : World) (a : List ℕ) where
   unfolding place_row flash_access
   room Flash e p = at (place_in s w a) refl
     where
-      at : (x : Place) → place_in s w a ≡ x → Room s w a (room_of x Flash)
-      at Nowhere q = absurd ((granted_is_placed s (length w.held.flash) (field_at a 28)).0 (granted flash_denials p) q)
-      at (At start n) q = in_flash start n e q
+      at : (x : Option Place) → place_in s w a ≡ x → Room s w a (room_of x Flash)
+      at None q = absurd ((granted_is_placed s (length w.held.flash) (field_at a 28)).0 (granted flash_denials p) q)
+      at (Some p) q = in_flash p.start p.len e q
   room MainRam e p = in_main e
   room XipRam e p = in_xip e
 
@@ -233,13 +230,13 @@ module _ (s : Settings) (w : World) (a : List ℕ) where
   unfolding stray_row
   stray_gone p = flash_window (ltb-false _ _ p.0) (leb-false _ _ p.1.0)
 
-  windowed : (u : Window) → WindowFacts (lengths_of w.held) (field_at a 12) u → (k : Kind) → u ≡ In k → Windowed w (field_at a 12)
-  windowed Outside f k e = let z : ◌≡◌ {A = ℕ} 0 1 = cc in absurd (omega arith)
-  windowed (In Flash) f k e = flash_window f.low f.high
-  windowed (In MainRam) f k e = main_window (eqb-false _ _ (not-true _ f.lent)) f.low f.high
-  windowed (In XipRam) f k e = xip_window (eqb-false _ _ (not-true _ f.lent)) f.low f.high
+  windowed : (u : Window) → WindowFacts (lengths_of w.held) (field_at a 12) u → (k : Kind) → u ≡ Some k → Windowed w (field_at a 12)
+  windowed None f k e = let z : ◌≡◌ {A = ℕ} 0 1 = cc in absurd (omega arith)
+  windowed (Some Flash) f k e = flash_window f.low f.high
+  windowed (Some MainRam) f k e = main_window (eqb-false _ _ (not-true _ f.lent)) f.low f.high
+  windowed (Some XipRam) f k e = xip_window (eqb-false _ _ (not-true _ f.lent)) f.low f.high
 
-  pub strays : window_of (lengths_of w.held) (field_at a 12) ≡ Outside → Windowed w (field_at a 12) → ⊥
+  pub strays : window_of (lengths_of w.held) (field_at a 12) ≡ None → Windowed w (field_at a 12) → ⊥
   strays e (flash_window l m) = clash (in_window (lengths_of w.held) Flash (field_at a 12)) (rw (le-leb _ _ l, lt-ltb _ _ m)) (in_none _ _ e Flash)
   strays e (main_window n l m) = clash (in_window (lengths_of w.held) MainRam (field_at a 12)) (rw (ne_eqb _ _ n, le-leb _ _ l, lt-ltb _ _ m)) (in_none _ _ e MainRam)
   strays e (xip_window n l m) = clash (in_window (lengths_of w.held) XipRam (field_at a 12)) (rw (ne_eqb _ _ n, le-leb _ _ l, lt-ltb _ _ m)) (in_none _ _ e XipRam)
@@ -282,9 +279,9 @@ module _ (s : Settings) (w : World) (a : List ℕ) where
 
     -- of a data block, by its window
     page : {r : Reason} (late : List Reason) → has_flag a 0x1 ≡ false → (u : Window) → window_of lens (field_at a 12) ≡ u → WindowFacts lens (field_at a 12) u
-        → ((k : Kind) → u ≡ In k → windows.kind_of w a ≡ k) → After (page_row u size (fields_of a) ++ late) r → (After late r → Is r) → Is r
+        → ((k : Kind) → u ≡ Some k → windows.kind_of w a ≡ k) → After (page_row u size (fields_of a) ++ late) r → (After late r → Is r) → Is r
     unfolding page_row fields_of
-    page late c Outside e f g d k =
+    page late c None e f g d k =
         let T = holds_in s w a in
         let L = last_of w a in
         let p = payload_row (field_at a 16) in
@@ -294,7 +291,7 @@ module _ (s : Settings) (w : World) (a : List ℕ) where
         (λ gone d1.
         parts T L Is x _ (assoc x n late d1) (stray (strays e))
         (λ out d2. absurd (strays e (stray_gone out))))
-    page late c (In v) e f g d k =
+    page late c (Some v) e f g d k =
         let T = holds_in s w a in
         let L = last_of w a in
         let p = payload_row (field_at a 16) in
@@ -302,14 +299,14 @@ module _ (s : Settings) (w : World) (a : List ℕ) where
         let x = address_in v (field_at a 12) size in
         parts T L Is p _ (assoc p (n ++ x) late d) payload
         (λ gone d1.
-        parts T L Is n _ (assoc n x late d1) (numbers (λ q. windowed (In v) f v refl))
+        parts T L Is n _ (assoc n x late d1) (numbers (λ q. windowed (Some v) f v refl))
         (λ counted d2. parts T L Is x late d2 (inside v (g v refl) f.high (numbered counted)) (λ z d3. k d3)))
 
     body : {r : Reason} (late : List Reason) → After (body_row size lens (fields_of a) ++ late) r → (After late r → Is r) → Is r
     unfolding body_row fields_of kind_of
     body {r} late = by-case (has_flag a 0x1) refl
       where
-        kind_is : has_flag a 0x1 ≡ false → (k : Kind) → window_of lens (field_at a 12) ≡ In k → windows.kind_of w a ≡ k
+        kind_is : has_flag a 0x1 ≡ false → (k : Kind) → window_of lens (field_at a 12) ≡ Some k → windows.kind_of w a ≡ k
         kind_is c k e = sym (kinds s w a) ∙ rw (c, e)
 
         by-case : (c : Bool) → has_flag a 0x1 ≡ c

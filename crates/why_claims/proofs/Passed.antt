@@ -1,4 +1,5 @@
 -- What an arrival has passed that a later row answers. Assumes nothing.
+use Rattle.std.specs.Prelude.{None}
 use Prim.Native.Nat.{ℕ, ◌/◌, ◌%◌, ◌<◌, ◌≤◌}
 use mathlib.Core.Path.{◌≡◌, refl, sym, ap, subst, ◌∙◌}
 use mathlib.Core.Logic.{◌≢◌, ◌⊎◌, inl, inr}
@@ -8,6 +9,7 @@ use native.Mathlib.Omega.{arith}
 use lib.Dec.{eqb}
 use lib.ListN.{length}
 use borrow.Author.Tests.{ltb-false, leb-false, eqb-true, eqb-false, not-false}
+use Rattle.std.specs.Prelude.{Some, None}
 use Rattle.laws.proofs.Tests.{split, clash}
 use Rattle.uf2_block.specs.Block.{field_at, has_flag, fields_of}
 use Rattle.partitions.specs.declared.Settings.{Settings}
@@ -17,16 +19,13 @@ use Rattle.transfer.specs.declared.Kind.{Kind}
 use Rattle.transfer.specs.declared.Kind.TheVariants.{Flash, MainRam, XipRam}
 use Rattle.transfer.specs.declared.State.{State}
 use Rattle.transfer.specs.declared.State.TheVariants.{Idle, Running, Done}
-use Rattle.uf2_checks.specs.Screen.{window_of}
-use Rattle.uf2_checks.specs.declared.Window.{Window}
-use Rattle.uf2_checks.specs.declared.Window.TheVariants.{Outside, In}
+use Rattle.uf2_checks.specs.Screen.{window_of, Window}
 use Rattle.arrival.specs.Arrive.{World, Forecast, lengths_of, receive_of}
 use Rattle.arrival.specs.Windows as windows
 use Rattle.arrival.specs.Facts.{LookTells}
 use Rattle.arrival.proofs.Facts.{look_tells}
 use Rattle.why_settings.specs.Faults.{faults_of, first_in, first_fault}
 use Rattle.why_settings.specs.declared.Fault.{Fault}
-use Rattle.why_settings.specs.declared.Finding.TheVariants.{Sound}
 use Rattle.why_settings.proofs.Theorems.{sound_is_good}
 use Rattle.why_place.specs.Placing.{flash_denials, ram_denials}
 use Rattle.why_place.specs.declared.Denial.{Denial}
@@ -215,8 +214,8 @@ module _ (s : Settings) (w : World) (a : List ℕ) {r : Reason} (d : Deciding (h
       first m x = eqb-true _ _ (not-false _ (step T L k (payload_row (field_at a 16)) m x (b, tt) n).0.0)
 
       by_window : (u : Window) → After (page_row u room (fields_of a) ++ rest s w a) → field_at a 16 ≡ 256
-      by_window Outside x = first _ x
-      by_window (In v) x = first _ x
+      by_window None x = first _ x
+      by_window (Some v) x = first _ x
 
   body_11 : All (λ c. row c ≤ 11) (body s w a)
   unfolding body_row fields_of page_row
@@ -224,8 +223,8 @@ module _ (s : Settings) (w : World) (a : List ℕ) {r : Reason} (d : Deciding (h
     where
       by-case : (c : Bool) (u : Window) → All (λ c. row c ≤ 11) (cond c (numbers_row (field_at a 24) (field_at a 20) room) (page_row u room (fields_of a)))
       by-case true u = numbers_11 s w a _ _ _
-      by-case false Outside = all_next _ (payload_row (field_at a 16)) _ (payload_9 s w a 11 (omega arith) _) (all_next _ (stray_row (field_at a 12)) _ (stray_11 s w a _) (numbers_11 s w a _ _ _))
-      by-case false (In v) = all_next _ (payload_row (field_at a 16)) _ (payload_9 s w a 11 (omega arith) _) (all_next _ (numbers_row (field_at a 24) (field_at a 20) room) _ (numbers_11 s w a _ _ _) (in_11 s w a v _ _))
+      by-case false None = all_next _ (payload_row (field_at a 16)) _ (payload_9 s w a 11 (omega arith) _) (all_next _ (stray_row (field_at a 12)) _ (stray_11 s w a _) (numbers_11 s w a _ _ _))
+      by-case false (Some v) = all_next _ (payload_row (field_at a 16)) _ (payload_9 s w a 11 (omega arith) _) (all_next _ (numbers_row (field_at a 24) (field_at a 20) room) _ (numbers_11 s w a _ _ _) (in_11 s w a v _ _))
 
   abbrev NumbersFalse : Type 0
   NumbersFalse = False (numbers_row (field_at a 24) (field_at a 20) room)
@@ -239,8 +238,8 @@ module _ (s : Settings) (w : World) (a : List ℕ) {r : Reason} (d : Deciding (h
     where
       by-case : (c : Bool) (u : Window) → False (cond c (numbers_row (field_at a 24) (field_at a 20) room) (page_row u room (fields_of a))) → NumbersFalse
       by-case true u x = x
-      by-case false Outside x = all_right _ (stray_row (field_at a 12)) _ (all_right _ (payload_row (field_at a 16)) _ x)
-      by-case false (In v) x = all_left _ (numbers_row (field_at a 24) (field_at a 20) room) _ (all_right _ (payload_row (field_at a 16)) _ x)
+      by-case false None x = all_right _ (stray_row (field_at a 12)) _ (all_right _ (payload_row (field_at a 16)) _ x)
+      by-case false (Some v) x = all_left _ (numbers_row (field_at a 24) (field_at a 20) room) _ (all_right _ (payload_row (field_at a 16)) _ x)
 
   -- row 11 by the kind of the window
   abbrev AddressFalse : Kind → Type 0
@@ -248,8 +247,8 @@ module _ (s : Settings) (w : World) (a : List ℕ) {r : Reason} (d : Deciding (h
 
   kind_in_lem : has_flag a 0x1 ≡ false → (u : Window) → window ≡ u → (v : Kind) → windows.kind_of w a ≡ v → False (page_row u room (fields_of a)) → AddressFalse v
   unfolding page_row fields_of kind_of address_in
-  kind_in_lem c Outside e v f x = absurd (numbers.strays s w a e (numbers.stray_gone s w a (all_left _ (stray_row (field_at a 12)) _ (all_right _ (payload_row (field_at a 16)) _ x))))
-  kind_in_lem c (In u) e v f x =
+  kind_in_lem c None e v f x = absurd (numbers.strays s w a e (numbers.stray_gone s w a (all_left _ (stray_row (field_at a 12)) _ (all_right _ (payload_row (field_at a 16)) _ x))))
+  kind_in_lem c (Some u) e v f x =
       let g : v ≡ u = sym f ∙ sym (kinds s w a) ∙ rw (c, e) in
       subst AddressFalse (sym g) (all_right _ (numbers_row (field_at a 24) (field_at a 20) room) _ (all_right _ (payload_row (field_at a 16)) _ x))
 
@@ -266,7 +265,7 @@ room_is s w a size (in_xip e) = rw (kinds s w a, e)
 
 -- ---- good settings
 
-no_fault : (s : Settings) (w : World) (a : List ℕ) (l : List Fault) → All (λ c. holds_in s w a c ≡ false) (fault_row s (length w.held.flash) l) → first_in s (length w.held.flash) l ≡ Sound
+no_fault : (s : Settings) (w : World) (a : List ℕ) (l : List Fault) → All (λ c. holds_in s w a c ≡ false) (fault_row s (length w.held.flash) l) → first_in s (length w.held.flash) l ≡ None
 unfolding fault_row first_in
 no_fault s w a [] h = refl
 no_fault s w a (x ∷ l) h = rw h.0 (no_fault s w a l h.1)

@@ -1,18 +1,19 @@
 -- A place asked for alone: its answer is the receiver's, and its reason the true one. Assumes nothing.
+use Rattle.std.specs.Prelude.{Result, Ok, Err}
 use mathlib.Core.Path.{◌≡◌, refl, sym, ap, subst, ◌∙◌}
 use mathlib.Core.Bool.{true, cond, not}
 use mathlib.Core.Logic.{⊎_elim}
 use Prim.Native.Nat.{ℕ, ◌<◌, ◌≤◌}
 use lib.ListN.{get_or}
 use native.Mathlib.Omega.{arith}
+use Rattle.std.specs.Prelude.{Option, Some, None, Ok, Err}
 use Rattle.laws.proofs.Tests.{split}
 use Rattle.memory.specs.Flash.{flash_length}
 use Rattle.partitions.specs.declared.Settings.{Settings}
 use Rattle.partitions.specs.Settings.{entry_at, good_settings}
-use Rattle.placement.specs.Place.{used_count, place_of, found_at, ask_of, place_answer_number}
+use Rattle.placement.specs.Place.{used_count, place_of, found_at, ask_of, place_answer_number, place_from}
 use Rattle.placement.specs.declared.Place.{Place}
-use Rattle.placement.specs.declared.Place.TheVariants.{Nowhere, At}
-use Rattle.placement.specs.declared.PlaceAnswer.TheVariants as ask
+use Rattle.placement.specs.declared.PlaceError.TheVariants as ask
 use Rattle.why_place.specs.declared.Rule.TheVariants.{Absolute, NoTable}
 use Rattle.partitions.proofs.Laws.{good_count}
 use Rattle.placement.proofs.Laws.{ask_length, ask_settings, ask_place}
@@ -22,10 +23,8 @@ use Rattle.transfer.specs.declared.Answer.TheVariants as answer
 use Rattle.why_settings.specs.Faults.{first_fault}
 use Rattle.why_place.specs.Placing.{denies, Marked, flash_access, granted_spot, spot_by, spot_of, spot_place, SpotTrue}
 use Rattle.why_place.specs.declared.Denial.TheVariants.{NoEntry}
-use Rattle.why_place.specs.declared.Access.{Access}
-use Rattle.why_place.specs.declared.Access.TheVariants.{Granted, Denied}
-use Rattle.why_place.specs.declared.Spot.{Spot}
-use Rattle.why_place.specs.declared.Spot.TheVariants as spot
+use Rattle.why_place.specs.declared.Origin.{Origin}
+use Rattle.why_place.specs.declared.Origin.TheVariants as origin
 use Rattle.why_place.proofs.Theorems.{granted_is_placed, spot_is_placed, place_is_true}
 use Rattle.why_causes.specs.Causes.{answer_of, reason_with}
 use Rattle.why_causes.specs.Checks.{by_numbers, row_of, or_next, or_last, Deciding}
@@ -34,13 +33,9 @@ use Rattle.why_causes.proofs.Rows.{deciding}
 use Rattle.why_causes.specs.declared.Cause.{Cause}
 use Rattle.why_causes.specs.declared.Cause.TheVariants.{NoPlace, Kept}
 use Rattle.why_causes.specs.declared.Reason.{Reason}
-use Rattle.why_causes.specs.declared.Row.{Row}
-use Rattle.why_causes.specs.declared.Row.TheVariants.{Passes, Decides}
 use Rattle.why.specs.Parts.{finding_row, access_row, place_part}
 use Rattle.why.specs.Why.{entries_of}
 use Rattle.why.specs.Placed.{place_checks, place_test, holds_of, placed_spot, placed_by, placed_of, placed_number, placed_marks, why_place_of}
-use Rattle.why.specs.declared.PlaceOrigin.{PlaceOrigin}
-use Rattle.why.specs.declared.PlaceOrigin.TheVariants.{Refused}
 use Rattle.why.proofs.Laws.{place_parts}
 use Rattle.why_claims.specs.Claims.{PlaceAnswerIsTheReceivers, refusal_or, PlaceReasonIsTrue, FoundTrue, FoundPlaceIsTrue, place_named, FoundPlaceIsTheReceivers, PlaceMarksAreTrue}
 use Rattle.why_claims.proofs.Answers.{told, told_next, flash_answer}
@@ -48,58 +43,59 @@ use Rattle.why_claims.proofs.Agree.{finding_answer, flash_denied, flash_open}
 use Rattle.why_claims.proofs.Fields.{mark_fields, low_used, first_fields}
 use Rattle.settings_claims.proofs.Targeting.{gets_said}
 use Rattle.why_claims.proofs.Theorems.{never, decided_holds, marks_denied}
+use Rattle.why_place.specs.declared.Denial.{Denial}
 
 -- a row whose answer is the same whatever comes after it decides, and one that leaves what comes after it passes
-number_decides : (r : Row) (q : PlaceOrigin) (x : Answer) → told r answer.Kept ≡ x → told r answer.Noted ≡ x → placed_number (placed_by r q) ≡ number_of x
-number_decides Passes q x e h = let z : answer.Kept ≡ answer.Noted = e ∙ sym h in absurd (let v : ◌≡◌ {A = ℕ} 0 1 = cc in omega arith)
-number_decides (Decides z) q x e h = ap number_of e
+number_decides : (r : Result (Unit {0}) Reason) (q : Result Origin Reason) (x : Answer) → told r answer.Kept ≡ x → told r answer.Noted ≡ x → placed_number (placed_by r q) ≡ number_of x
+number_decides (Ok u) q x e h = let z : answer.Kept ≡ answer.Noted = e ∙ sym h in absurd (let v : ◌≡◌ {A = ℕ} 0 1 = cc in omega arith)
+number_decides (Err z) q x e h = ap number_of e
 
-number_passes : (r : Row) (q : PlaceOrigin) → told r answer.Kept ≡ answer.Kept → told r answer.Noted ≡ answer.Noted → placed_number (placed_by r q) ≡ placed_number q
-number_passes Passes q e h = refl
-number_passes (Decides z) q e h = let v : answer.Kept ≡ answer.Noted = sym e ∙ h in absurd (let u : ◌≡◌ {A = ℕ} 0 1 = cc in omega arith)
+number_passes : (r : Result (Unit {0}) Reason) (q : Result Origin Reason) → told r answer.Kept ≡ answer.Kept → told r answer.Noted ≡ answer.Noted → placed_number (placed_by r q) ≡ placed_number q
+number_passes (Ok u) q e h = refl
+number_passes (Err z) q e h = let v : answer.Kept ≡ answer.Noted = sym e ∙ h in absurd (let u : ◌≡◌ {A = ℕ} 0 1 = cc in omega arith)
 
 -- the reason of no refusal
 abbrev no_reason : Reason
 no_reason = reason_with Kept 0 0
 
 module _ (s : Settings) (len f : ℕ) where
-  abbrev row : Row
+  abbrev row : Result (Unit {0}) Reason
   row = row_of (holds_of s len f) (place_checks s len f)
 
   row_told : (y : Answer) → told row y ≡ cond (not (flash_length len)) answer.BadBuffers (cond (not (good_settings s len)) answer.BadSettings (told (access_row f (flash_access s f)) y))
   unfolding place_part
   row_told y =
       let z = told (access_row f (flash_access s f)) y in
-      ap (λ (r : Row). told r y) (place_parts s len f)
+      ap (λ (r : Result (Unit {0}) Reason). told r y) (place_parts s len f)
       ∙ told_next (place_part s len) (access_row f (flash_access s f)) y
       ∙ told_next (row_of by_numbers (flash_row len)) (finding_row s len (first_fault s len)) z
       ∙ flash_answer len (told (finding_row s len (first_fault s len)) z)
       ∙ ap (cond (not (flash_length len)) answer.BadBuffers) (finding_answer s len z)
 
   -- a family that is not shut out has a spot
-  granted_found : flash_access s f ≡ Granted → (z : Spot) → granted_spot s f ≡ z → (y : Reason) → (placed_number (placed_spot f z) ≡ 0) × (refusal_or y (placed_spot f z) ≡ y)
+  granted_found : flash_access s f ≡ Ok tt → (z : Result Origin Denial) → granted_spot s f ≡ z → (y : Reason) → (placed_number (placed_spot f z) ≡ 0) × (refusal_or y (placed_spot f z) ≡ y)
   unfolding spot_of
-  granted_found g (spot.Refused x) e y =
-      let p : spot_place s len (spot_of s f) ≡ Nowhere = rw (g, e) refl in
+  granted_found g (Err x) e y =
+      let p : spot_place s len (spot_of s f) ≡ None = rw (g, e) refl in
       absurd ((granted_is_placed s len f).0 g (sym (spot_is_placed s len f) ∙ p))
-  granted_found g (spot.Whole r) e y = (refl, refl)
-  granted_found g (spot.Entry p k) e y = (refl, refl)
+  granted_found g (Ok (origin.Whole r)) e y = (refl, refl)
+  granted_found g (Ok (origin.Entry p k)) e y = (refl, refl)
 
   -- the last of the rows passes where all do
-  access_granted : (p : Row) (x : Access) → or_next p (access_row f x) ≡ Passes → x ≡ Granted
-  access_granted p Granted e = refl
-  access_granted Passes (Denied x) e = absurd (let u : ◌≡◌ {A = ℕ} 0 1 = cc in omega arith)
-  access_granted (Decides z) (Denied x) e = absurd (let u : ◌≡◌ {A = ℕ} 0 1 = cc in omega arith)
+  access_granted : (p : Result (Unit {0}) Reason) (x : Result (Unit {0}) Denial) → or_next p (access_row f x) ≡ Ok tt → x ≡ Ok tt
+  access_granted p (Ok u) e = refl
+  access_granted (Ok o) (Err x) e = absurd (let u : ◌≡◌ {A = ℕ} 0 1 = cc in omega arith)
+  access_granted (Err z) (Err x) e = absurd (let u : ◌≡◌ {A = ℕ} 0 1 = cc in omega arith)
 
-  number_at : (p : Place) → place_of s len f ≡ p → flash_length len ≡ true → good_settings s len ≡ true → placed_number (placed_of s len f) ≡ place_answer_number (found_at p)
+  number_at : (p : Option Place) → place_of s len f ≡ p → flash_length len ≡ true → good_settings s len ≡ true → placed_number (placed_of s len f) ≡ place_answer_number (found_at p)
   unfolding placed_of
-  number_at Nowhere e l g =
+  number_at None e l g =
       let denied : (y : Answer) → told row y ≡ answer.NoPlace = λ y. row_told y ∙ rw (l, g) (flash_denied s len f y e) in
       number_decides row (placed_spot f (granted_spot s f)) answer.NoPlace (denied answer.Kept) (denied answer.Noted)
-  number_at (At a n) e l g =
+  number_at (Some p) e l g =
       let open_is : (y : Answer) → told row y ≡ y = λ y. row_told y ∙ rw (l, g) (flash_open s len f y e) in
       number_passes row (placed_spot f (granted_spot s f)) (open_is answer.Kept) (open_is answer.Noted)
-      ∙ (granted_found ((granted_is_placed s len f).1 (λ h. let q : Nowhere ≡ At a n = sym h ∙ e in let z : ◌≡◌ {A = ℕ} 0 1 = cc in omega arith)) (granted_spot s f) refl no_reason).0
+      ∙ (granted_found ((granted_is_placed s len f).1 (λ h. let q : None ≡ Some p = sym h ∙ e in let z : ◌≡◌ {A = ℕ} 0 1 = cc in omega arith)) (granted_spot s f) refl no_reason).0
 
   answer_is_asked : placed_number (placed_of s len f) ≡ place_answer_number (ask_of s len f)
   unfolding placed_of
@@ -122,17 +118,17 @@ module _ (s : Settings) (len f : ℕ) where
   reason_decides y =
       subst (Deciding (holds_of s len f) y (place_checks s len f)) (by_row row refl) (deciding (holds_of s len f) y (place_checks s len f))
     where
-      by_row : (r : Row) → row ≡ r → or_last y r ≡ refusal_or y (placed_by r (placed_spot f (granted_spot s f)))
-      by_row (Decides x) e = refl
-      by_row Passes e =
+      by_row : (r : Result (Unit {0}) Reason) → row ≡ r → or_last y r ≡ refusal_or y (placed_by r (placed_spot f (granted_spot s f)))
+      by_row (Err x) e = refl
+      by_row (Ok u) e =
           sym (granted_found (access_granted (place_part s len) (flash_access s f) (sym (place_parts s len f) ∙ e)) (granted_spot s f) refl y).1
 
   -- ---- where no entry takes the family
 
-  marks_true : (x : Reason) → placed_of s len f ≡ Refused x → x.cause ≡ NoPlace NoEntry → (k : ℕ) → k < used_count s.count
+  marks_true : (x : Reason) → placed_of s len f ≡ Err x → x.cause ≡ NoPlace NoEntry → (k : ℕ) → k < used_count s.count
       → Marked (entry_at s.table k) f (get_or (placed_marks s f (placed_of s len f)) k 0)
   marks_true x e h k l =
-      let d = subst (λ (p : PlaceOrigin). Deciding (holds_of s len f) no_reason (place_checks s len f) (refusal_or no_reason p)) e (reason_decides no_reason) in
+      let d = subst (λ (p : Result Origin Reason). Deciding (holds_of s len f) no_reason (place_checks s len f) (refusal_or no_reason p)) e (reason_decides no_reason) in
       let t : denies s f NoEntry ≡ true =
       ⊎_elim
       (λ q. let c : NoPlace NoEntry ≡ Kept = sym h ∙ ap (λ (r : Reason). r.cause) q in let z : ◌≡◌ {A = ℕ} 0 1 = cc in absurd (never z))
@@ -143,70 +139,70 @@ module _ (s : Settings) (len f : ℕ) where
   -- ---- where it is found
 
   -- what a spot tells is told of the place
-  spot_found : s.count ≤ 16 → (z : Spot) → SpotTrue s f z → FoundTrue s f (placed_spot f z)
-  spot_found most (spot.Refused x) t = tt
-  spot_found most (spot.Whole Absolute) t = t
-  spot_found most (spot.Whole NoTable) t = (t.0, gets_said s f t.2)
-  spot_found most (spot.Entry p k) t = rw t.1 (first_fields s f most t.0 k t.2)
+  spot_found : s.count ≤ 16 → (z : Result Origin Denial) → SpotTrue s f z → FoundTrue s f (placed_spot f z)
+  spot_found most (Err x) t = tt
+  spot_found most (Ok (origin.Whole Absolute)) t = t
+  spot_found most (Ok (origin.Whole NoTable)) t = (t.0, gets_said s f t.2)
+  spot_found most (Ok (origin.Entry p k)) t = rw t.1 (first_fields s f most t.0 k t.2)
 
   -- where every row passes, the settings are good
-  passed_good : row ≡ Passes → good_settings s len ≡ true
+  passed_good : row ≡ Ok tt → good_settings s len ≡ true
   passed_good e =
       split (good_settings s len)
       (λ g. g)
       (λ g.
       let h : answer.Kept ≡ cond (not (flash_length len)) answer.BadBuffers answer.BadSettings =
-      ap (λ (r : Row). told r answer.Kept) (sym e) ∙ row_told answer.Kept ∙ rw g in
+      ap (λ (r : Result (Unit {0}) Reason). told r answer.Kept) (sym e) ∙ row_told answer.Kept ∙ rw g in
       split (flash_length len)
       (λ l. let q : answer.Kept ≡ answer.BadSettings = rw l at h in absurd (let z : ◌≡◌ {A = ℕ} 0 1 = cc in omega arith))
       (λ l. let q : answer.Kept ≡ answer.BadBuffers = rw l at h in absurd (let z : ◌≡◌ {A = ℕ} 0 1 = cc in omega arith)))
 
   -- where every row passes, the spot is the one of the place
-  passed_spot : row ≡ Passes → spot_of s f ≡ granted_spot s f
+  passed_spot : row ≡ Ok tt → spot_of s f ≡ granted_spot s f
   unfolding spot_of
-  passed_spot e = ap (λ (x : Access). spot_by x (granted_spot s f)) (access_granted (place_part s len) (flash_access s f) (sym (place_parts s len f) ∙ e))
+  passed_spot e = ap (λ (x : Result (Unit {0}) Denial). spot_by x (granted_spot s f)) (access_granted (place_part s len) (flash_access s f) (sym (place_parts s len f) ∙ e))
 
   found_true : FoundTrue s f (placed_of s len f)
   unfolding placed_of
   found_true = by_row row refl
     where
-      by_row : (r : Row) → row ≡ r → FoundTrue s f (placed_by r (placed_spot f (granted_spot s f)))
-      by_row (Decides x) e = tt
-      by_row Passes e = spot_found (good_count s len (passed_good e)) (granted_spot s f) (subst (SpotTrue s f) (passed_spot e) (place_is_true s f))
+      by_row : (r : Result (Unit {0}) Reason) → row ≡ r → FoundTrue s f (placed_by r (placed_spot f (granted_spot s f)))
+      by_row (Err x) e = tt
+      by_row (Ok u) e = spot_found (good_count s len (passed_good e)) (granted_spot s f) (subst (SpotTrue s f) (passed_spot e) (place_is_true s f))
 
   -- the place that is named is the spot's
-  spot_named : (z : Spot) → place_named s len (placed_spot f z) ≡ spot_place s len z
-  spot_named (spot.Refused x) = refl
-  spot_named (spot.Whole r) = refl
-  spot_named (spot.Entry p k) = refl
+  spot_named : (z : Result Origin Denial) → place_named s len (placed_spot f z) ≡ spot_place s len z
+  spot_named (Err x) = refl
+  spot_named (Ok (origin.Whole r)) = refl
+  spot_named (Ok (origin.Entry p k)) = refl
 
   -- where the receiver finds a place rows 1 and 2 pass
-  asked_found : (a n : ℕ) → ask_of s len f ≡ ask.Found a n → (flash_length len ≡ true) × (good_settings s len ≡ true) × (place_of s len f ≡ At a n)
+  asked_found : (a n : ℕ) → ask_of s len f ≡ Ok (place_from a n) → (flash_length len ≡ true) × (good_settings s len ≡ true) × (place_of s len f ≡ Some (place_from a n))
   asked_found a n e =
       split (flash_length len)
       (λ l.
       split (good_settings s len)
       (λ g. (l, g, same (place_of s len f) (sym (ask_place s len f l g) ∙ e)))
-      (λ g. let h : ask.BadSettings ≡ ask.Found a n = sym (ask_settings s len f l g) ∙ e in let z : ◌≡◌ {A = ℕ} 0 1 = cc in absurd (omega arith)))
-      (λ l. let h : ask.BadBuffers ≡ ask.Found a n = sym (ask_length s len f l) ∙ e in let z : ◌≡◌ {A = ℕ} 0 1 = cc in absurd (omega arith))
+      (λ g. let h : Err ask.BadSettings ≡ Ok (place_from a n) = sym (ask_settings s len f l g) ∙ e in let z : ◌≡◌ {A = ℕ} 0 1 = cc in absurd (omega arith)))
+      (λ l. let h : Err ask.BadBuffers ≡ Ok (place_from a n) = sym (ask_length s len f l) ∙ e in let z : ◌≡◌ {A = ℕ} 0 1 = cc in absurd (omega arith))
     where
-      same : (p : Place) → found_at p ≡ ask.Found a n → p ≡ At a n
-      same Nowhere h = absurd (let z : ◌≡◌ {A = ℕ} 0 1 = cc in omega arith)
-      same (At b m) h = let x : b ≡ a = cc in let y : m ≡ n = cc in rw (x, y)
+      same : (p : Option Place) → found_at p ≡ Ok (place_from a n) → p ≡ Some (place_from a n)
+      same None h = absurd (let z : ◌≡◌ {A = ℕ} 0 1 = cc in omega arith)
+      same (Some p) h = let x : p ≡ place_from a n = cc in ap Some x
 
-  found_named : (a n : ℕ) → ask_of s len f ≡ ask.Found a n → place_named s len (placed_of s len f) ≡ At a n
+  found_named : (a n : ℕ) → ask_of s len f ≡ Ok (place_from a n) → place_named s len (placed_of s len f) ≡ Some (place_from a n)
   unfolding placed_of
   found_named a n e = by_row row refl
     where
       open_is : (y : Answer) → told row y ≡ y
       open_is y = let q = asked_found a n e in row_told y ∙ rw (q.0, q.1) (flash_open s len f y q.2)
 
-      by_row : (r : Row) → row ≡ r → place_named s len (placed_by r (placed_spot f (granted_spot s f))) ≡ At a n
-      by_row (Decides x) h =
-          let told_is : (y : Answer) → answer_of x.cause ≡ y = λ y. ap (λ (r : Row). told r y) (sym h) ∙ open_is y in
+      by_row : (r : Result (Unit {0}) Reason) → row ≡ r → place_named s len (placed_by r (placed_spot f (granted_spot s f))) ≡ Some (place_from a n)
+      by_row (Err x) h =
+          let told_is : (y : Answer) → answer_of x.cause ≡ y = λ y. ap (λ (r : Result (Unit {0}) Reason). told r y) (sym h) ∙ open_is y in
           let v : answer.Kept ≡ answer.Noted = sym (told_is answer.Kept) ∙ told_is answer.Noted in
           let z : ◌≡◌ {A = ℕ} 0 1 = cc in absurd (omega arith)
-      by_row Passes h = spot_named (granted_spot s f) ∙ (ap (spot_place s len) (sym (passed_spot h)) ∙ (spot_is_placed s len f ∙ (asked_found a n e).2))
+      by_row (Ok u) h = spot_named (granted_spot s f) ∙ (ap (spot_place s len) (sym (passed_spot h)) ∙ (spot_is_placed s len f ∙ (asked_found a n e).2))
 
 pub found_place_is_true : FoundPlaceIsTrue
 unfolding FoundPlaceIsTrue why_place_of

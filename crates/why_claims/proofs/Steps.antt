@@ -1,16 +1,17 @@
 -- Rows 12 to 17 beside the step of the transfer. Assumes nothing.
+use Rattle.std.specs.Prelude.{Ok, Err}
 use mathlib.Core.Path.{◌≡◌, refl, ap, ◌∙◌}
 use mathlib.Core.Bool.{Bool, true, false, cond, not, ◌&&◌}
 use mathlib.Core.List.{List}
 use Prim.Native.Nat.{ℕ, ◌+◌, ◌-◌, ◌%◌}
 use lib.Dec.{ltb, leb, eqb}
+use Rattle.std.specs.Prelude.{Some, Ok, Err}
 use Rattle.memory.specs.Bitmap.{marked_in}
 use Rattle.uf2_block.specs.Block.{field_at, has_flag}
 use Rattle.uf2_block.specs.Region.{region_of}
 use Rattle.uf2_block.specs.declared.Block.{Block}
 use Rattle.uf2_block.specs.Regions.{good_region, stands_in}
-use Rattle.placement.specs.declared.Place.TheVariants.{At}
-use Rattle.transfer.specs.Transfer.{same_kind, same_head, head_with, deed_answer, raised, accepted, step_of}
+use Rattle.transfer.specs.Transfer.{same_kind, same_head, head_with, deed_answer, raised, accepted, step_of, Step}
 use Rattle.transfer.specs.declared.Kind.{Kind}
 use Rattle.transfer.specs.declared.Kind.TheVariants.{Flash}
 use Rattle.transfer.specs.declared.Head.{Head}
@@ -18,29 +19,25 @@ use Rattle.transfer.specs.declared.Deed.{Deed}
 use Rattle.transfer.specs.declared.Deed.TheVariants.{Stores, Notes, Keeps}
 use Rattle.transfer.specs.declared.State.{State}
 use Rattle.transfer.specs.declared.State.TheVariants.{Idle, Running, Done}
-use Rattle.transfer.specs.declared.Step.{Step}
-use Rattle.transfer.specs.declared.Step.TheVariants.{Stays, Accepts}
 use Rattle.transfer.specs.declared.Answer.{Answer}
 use Rattle.transfer.specs.declared.Answer.TheVariants as answer
-use Rattle.uf2_checks.specs.Screen.{placed_at}
+use Rattle.uf2_checks.specs.Screen.{placed_at, Screening}
 use Rattle.uf2_checks.specs.declared.PlacedBlock.{PlacedBlock}
 use Rattle.uf2_checks.specs.declared.Body.TheVariants.{Page, Note}
-use Rattle.uf2_checks.specs.declared.Screening.{Screening}
-use Rattle.uf2_checks.specs.declared.Screening.TheVariants.{Refused, Passed}
 use Rattle.arrival.specs.Arrive.{stands_at, stepped, after_screening, forecast_of}
 use Rattle.why_causes.specs.Causes.{reason_with}
 use Rattle.why_causes.specs.declared.NotKept.TheVariants as not_kept
 use Rattle.why_causes.specs.declared.Cause.TheVariants.{Again, Written, Completed, Noted}
-use Rattle.why_causes.specs.declared.Row.TheVariants.{Passes, Decides}
 use Rattle.why_checks.specs.Block.{raised_of}
 use Rattle.why_checks.specs.Parts.{fate_part, region_part, written_part}
 use Rattle.why_claims.proofs.Answers.{told, not_ltb}
+use Rattle.placement.specs.Place.{place_from}
 
 -- the answer that the receiver gives to what the screening says
 abbrev pub settled : State → List ℕ → Bool → Screening → Answer
 settled t seen kept x = (forecast_of (after_screening t seen kept x)).answer
 
-pub settled_refused : (t : State) (seen : List ℕ) (kept : Bool) (x : Answer) → settled t seen kept (Refused x) ≡ x
+pub settled_refused : (t : State) (seen : List ℕ) (kept : Bool) (x : Answer) → settled t seen kept (Err x) ≡ x
 unfolding after_screening
 settled_refused t seen kept x = refl
 
@@ -48,30 +45,30 @@ settled_refused t seen kept x = refl
 
 module _ (g : Head) (number : ℕ) (m cm : Bool) (p : PlacedBlock) (d : Deed) (z : Answer) (e : cond cm answer.Noted z ≡ deed_answer d) where
   -- the raised count beside the total
-  tail : (c : ℕ) → told (cond (leb g.total c) (Decides (reason_with Completed c g.total)) (cond cm (Decides (reason_with Noted c g.total)) Passes)) z
+  tail : (c : ℕ) → told (cond (leb g.total c) (Err (reason_with Completed c g.total)) (cond cm (Err (reason_with Noted c g.total)) (Ok tt))) z
       ≡ raised d g c
   unfolding raised
-  tail c = ap (λ (b : Bool). told (cond b (Decides (reason_with Completed c g.total)) (cond cm (Decides (reason_with Noted c g.total)) Passes)) z) (not_ltb g.total c)
+  tail c = ap (λ (b : Bool). told (cond b (Err (reason_with Completed c g.total)) (cond cm (Err (reason_with Noted c g.total)) (Ok tt))) z) (not_ltb g.total c)
       ∙ by-case (ltb c g.total) cm e
     where
       by-case : (b q : Bool) → cond q answer.Noted z ≡ deed_answer d
-          → told (cond (not b) (Decides (reason_with Completed c g.total)) (cond q (Decides (reason_with Noted c g.total)) Passes)) z ≡ cond b (deed_answer d) answer.Completed
+          → told (cond (not b) (Err (reason_with Completed c g.total)) (cond q (Err (reason_with Noted c g.total)) (Ok tt))) z ≡ cond b (deed_answer d) answer.Completed
       by-case false q h = refl
       by-case true true h = h
       by-case true false h = h
 
   same_case : (s : Bool) (c : ℕ) (r : Step)
       → told
-      (cond (s && m) (Decides (reason_with Again number g.total))
-      (cond (leb g.total (cond s (c + 1) 1)) (Decides (reason_with Completed (cond s (c + 1) 1) g.total))
-      (cond cm (Decides (reason_with Noted (cond s (c + 1) 1) g.total)) Passes)))
+      (cond (s && m) (Err (reason_with Again number g.total))
+      (cond (leb g.total (cond s (c + 1) 1)) (Err (reason_with Completed (cond s (c + 1) 1) g.total))
+      (cond cm (Err (reason_with Noted (cond s (c + 1) 1) g.total)) (Ok tt))))
       z
       ≡ cond s (cond m answer.Again (raised d g (c + 1))) (raised d g 1)
   same_case true c r = again m
     where
       again : (m : Bool) → told
-          (cond m (Decides (reason_with Again number g.total))
-          (cond (leb g.total (c + 1)) (Decides (reason_with Completed (c + 1) g.total)) (cond cm (Decides (reason_with Noted (c + 1) g.total)) Passes)))
+          (cond m (Err (reason_with Again number g.total))
+          (cond (leb g.total (c + 1)) (Err (reason_with Completed (c + 1) g.total)) (cond cm (Err (reason_with Noted (c + 1) g.total)) (Ok tt))))
           z
           ≡ cond m answer.Again (raised d g (c + 1))
       again true = refl
@@ -88,8 +85,8 @@ module _ (g : Head) (number : ℕ) (m cm : Bool) (p : PlacedBlock) (d : Deed) (z
           ≡ (forecast_of
           (stepped p d
           (cond s
-          (cond m (Stays (record { transfer = record { state = Running r }; answer = answer.Again })) (Accepts (accepted d false false g (r.count + 1))))
-          (Accepts (accepted d true true g 1))))
+          (cond m (Err (record { transfer = record { state = Running r }; answer = answer.Again })) (Ok (accepted d false false g (r.count + 1))))
+          (Ok (accepted d true true g 1))))
           ).answer
       steps true true = refl
       steps true false = refl
@@ -100,13 +97,13 @@ module _ (g : Head) (number : ℕ) (m cm : Bool) (p : PlacedBlock) (d : Deed) (z
 -- every condition of L9 is met, or one is not
 ten : (f k r1 r2 e w1 w2 a1 a2 d : Bool) (n total : ℕ)
     → told
-    (cond (not f) (Decides (reason_with (Written not_kept.NoRegion) n total))
-    (cond (not k) (Decides (reason_with (Written not_kept.InRam) n total))
-    (cond (not (r1 && r2)) (Decides (reason_with (Written not_kept.Ragged) n total))
-    (cond e (Decides (reason_with (Written not_kept.Empty) n total))
-    (cond (not (w1 && w2)) (Decides (reason_with (Written not_kept.OutsidePlace) n total))
-    (cond (not (a1 && a2)) (Decides (reason_with (Written not_kept.NotAround) n total))
-    (cond (not d) (Decides (reason_with (Written not_kept.OtherDigest) n total)) Passes)))))))
+    (cond (not f) (Err (reason_with (Written not_kept.NoRegion) n total))
+    (cond (not k) (Err (reason_with (Written not_kept.InRam) n total))
+    (cond (not (r1 && r2)) (Err (reason_with (Written not_kept.Ragged) n total))
+    (cond e (Err (reason_with (Written not_kept.Empty) n total))
+    (cond (not (w1 && w2)) (Err (reason_with (Written not_kept.OutsidePlace) n total))
+    (cond (not (a1 && a2)) (Err (reason_with (Written not_kept.NotAround) n total))
+    (cond (not d) (Err (reason_with (Written not_kept.OtherDigest) n total)) (Ok tt))))))))
     answer.Kept
     ≡ cond (k && (f && (r1 && r2 && not e && w1 && w2 && a1 && a2) && d)) answer.Kept answer.Written
 ten false true r1 r2 e w1 w2 a1 a2 d n total = refl
@@ -123,7 +120,7 @@ ten true true true true false true true true true false n total = refl
 ten true true true true false true true true true true n total = refl
 
 pub written_answer : (flash a : List ℕ) (start size : ℕ) (k : Kind) (n total : ℕ)
-    → told (written_part flash start size k a n total) answer.Kept ≡ cond (same_kind k Flash && stands_at flash (At start size) a) answer.Kept answer.Written
+    → told (written_part flash start size k a n total) answer.Kept ≡ cond (same_kind k Flash && stands_at flash (Some (place_from start size)) a) answer.Kept answer.Written
 unfolding written_part region_part stands_at good_region
 written_answer flash a start size k n total =
     let g = region_of a in
@@ -136,16 +133,16 @@ module _ (t : State) (seen flash a : List ℕ) (b : Block) (k : Kind) where
   pub note_late : (start size : ℕ) (kept : Bool)
       → told (fate_part t (head_with k b.family b.total) b.number (marked_in seen b.number) true)
       (told (written_part flash start size k a (raised_of t (head_with k b.family b.total)) b.total) answer.Kept)
-      ≡ settled t seen kept (Passed (placed_at k Note b))
+      ≡ settled t seen kept (Ok (placed_at k Note b))
   unfolding after_screening
   note_late start size kept =
       fate_answer (head_with k b.family b.total) b.number (marked_in seen b.number) true (placed_at k Note b) Notes
       (told (written_part flash start size k a (raised_of t (head_with k b.family b.total)) b.total) answer.Kept) refl t
 
-  pub page_late : (start size at : ℕ) (kept : Bool) → same_kind k Flash && stands_at flash (At start size) a ≡ same_kind k Flash && kept
+  pub page_late : (start size at : ℕ) (kept : Bool) → same_kind k Flash && stands_at flash (Some (place_from start size)) a ≡ same_kind k Flash && kept
       → told (fate_part t (head_with k b.family b.total) b.number (marked_in seen b.number) false)
       (told (written_part flash start size k a (raised_of t (head_with k b.family b.total)) b.total) answer.Kept)
-      ≡ settled t seen kept (Passed (placed_at k (Page at) b))
+      ≡ settled t seen kept (Ok (placed_at k (Page at) b))
   unfolding after_screening
   page_late start size at kept h =
       fate_answer (head_with k b.family b.total) b.number (marked_in seen b.number) false (placed_at k (Page at) b) (cond (same_kind k Flash && kept) Keeps Stores)

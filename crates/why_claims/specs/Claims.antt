@@ -1,14 +1,12 @@
 -- What is claimed of reasons (02, L6): "Show that the reason is the true one: every earlier check passes, this one doesn't, and the answer is the
 -- receiver's." For every settings, transfer, buffers and arrival. proofs/ proves each claim, in lower case. Assumes nothing.
-use Rattle.std.specs.Prelude.{ℕ, ◌+◌, ◌*◌, ◌<◌, ◌≤◌, get_or, ◌≡◌, ◌⊎◌, Bool, true, ◌&&◌, List, [], ◌∷◌, ltb}
+use Rattle.std.specs.Prelude.{ℕ, ◌+◌, ◌*◌, ◌<◌, ◌≤◌, get_or, ◌≡◌, ◌⊎◌, Bool, true, ◌&&◌, List, [], ◌∷◌, ltb, Option, Some, None, Ok, Result, Err}
 use Rattle.uf2_block.specs.Block.{field_at}
 use Rattle.partitions.specs.Settings.{entry_at}
 use Rattle.partitions.specs.declared.Entry as settings
 use Rattle.partitions.specs.declared.Link.TheVariants.{BOf}
-use Rattle.placement.specs.Place.{bytes_of}
+use Rattle.placement.specs.Place.{bytes_of, place_from}
 use Rattle.placement.specs.declared.Place.{Place}
-use Rattle.placement.specs.declared.Place.TheVariants.{Nowhere, At}
-use Rattle.placement.specs.declared.PlaceAnswer.TheVariants.{Found}
 use Rattle.why_settings.specs.Faults.{fault_number, faults_of}
 use Rattle.why_settings.specs.declared.Fault.{Fault}
 use Rattle.why_settings.specs.declared.Fault.TheVariants.{ArchOff, CountOver, NoSectors, PastFlash, Shares, LinksUp, LinksToB, ManyUsers, ReservedUser}
@@ -16,8 +14,8 @@ use Rattle.why_place.specs.declared.Rule.TheVariants.{Absolute, NoTable}
 use Rattle.why_place.specs.declared.Denial.TheVariants.{NoEntry}
 use Rattle.why_causes.specs.declared.Cause.TheVariants.{NoPlace}
 use Rattle.placement.specs.Place.{ask_of, place_answer_number}
-use Rattle.why.specs.declared.PlaceOrigin.{PlaceOrigin}
-use Rattle.why.specs.declared.PlaceOrigin.TheVariants.{Refused, Whole, Entry}
+use Rattle.why_place.specs.declared.Origin.{Origin}
+use Rattle.why_place.specs.declared.Origin.TheVariants.{Whole, Entry}
 use Rattle.why.specs.Placed.{place_checks, holds_of, placed_number, why_place_of}
 use Rattle.why.specs.Why.{place_row, checks_of, last_of, holds_in, why_of}
 use Rattle.partitions.specs.declared.Settings.{Settings}
@@ -71,10 +69,10 @@ unfoldable pub PlaceAnswerIsTheReceivers : Type 0
 PlaceAnswerIsTheReceivers = (s : Settings) (len f : ℕ) → placed_number (why_place_of s len f).placed ≡ place_answer_number (ask_of s len f)
 
 -- the reason of a refusal, or y where the place is found
-abbrev pub refusal_or : Reason → PlaceOrigin → Reason
-refusal_or y (Refused x) = x
-refusal_or y (Whole r) = y
-refusal_or y (Entry p k) = y
+abbrev pub refusal_or : Reason → Result Origin Reason → Reason
+refusal_or y (Err x) = x
+refusal_or y (Ok (Whole r)) = y
+refusal_or y (Ok (Entry p k)) = y
 
 -- "every earlier check passes, this one doesn't", or all pass and it is found
 unfoldable pub PlaceReasonIsTrue : Type 0
@@ -83,31 +81,31 @@ PlaceReasonIsTrue =
 
 -- "For a place it names the pass and the entry, or the whole-flash rule.": absolute is the family and is allowed; there is no table and the family is one
 -- that then gets the whole flash; or pass p, of 1 to 4, is the first that takes a used entry, and k is the first that it takes (`First` of targeting)
-abbrev pub FoundTrue : Settings → ℕ → PlaceOrigin → Type 0
-FoundTrue s f (Refused x) = Unit {0}
-FoundTrue s f (Whole Absolute) = (f ≡ 0xe48bff57) × (s.absolute ≡ true)
-FoundTrue s f (Whole NoTable) =
+abbrev pub FoundTrue : Settings → ℕ → Result Origin Reason → Type 0
+FoundTrue s f (Err x) = Unit {0}
+FoundTrue s f (Ok (Whole Absolute)) = (f ≡ 0xe48bff57) × (s.absolute ≡ true)
+FoundTrue s f (Ok (Whole NoTable)) =
     (s.count ≡ 0) × ((f ≡ 0xe48bff58) ⊎ (((f ≡ 0xe48bff59) × (s.arm ≡ true)) ⊎ ((f ≡ 0xe48bff5a) × (s.riscv ≡ true))))
-FoundTrue s f (Entry p k) = First s f p k
+FoundTrue s f (Ok (Entry p k)) = First s f p k
 
 unfoldable pub FoundPlaceIsTrue : Type 0
 FoundPlaceIsTrue = (s : Settings) (len f : ℕ) → FoundTrue s f (why_place_of s len f).placed
 
 -- the place that is named so: the whole flash, or the bytes of the entry
-abbrev pub place_named : Settings → ℕ → PlaceOrigin → Place
-place_named s len (Refused x) = Nowhere
-place_named s len (Whole r) = At 0 len
-place_named s len (Entry p k) = bytes_of (entry_at s.table k)
+abbrev pub place_named : Settings → ℕ → Result Origin Reason → Option Place
+place_named s len (Err x) = None
+place_named s len (Ok (Whole r)) = Some (place_from 0 len)
+place_named s len (Ok (Entry p k)) = bytes_of (entry_at s.table k)
 
 -- where the receiver finds a place, that one is named
 unfoldable pub FoundPlaceIsTheReceivers : Type 0
 FoundPlaceIsTheReceivers =
-    (s : Settings) (len f a n : ℕ) → ask_of s len f ≡ Found a n → place_named s len (why_place_of s len f).placed ≡ At a n
+    (s : Settings) (len f a n : ℕ) → ask_of s len f ≡ Ok (place_from a n) → place_named s len (why_place_of s len f).placed ≡ Some (place_from a n)
 
 -- "for each used entry "B of" or else "doesn't accept"", of a family that has no place asked for alone
 unfoldable pub PlaceMarksAreTrue : Type 0
 PlaceMarksAreTrue =
-    (s : Settings) (len f : ℕ) (x : Reason) → (why_place_of s len f).placed ≡ Refused x → x.cause ≡ NoPlace NoEntry → (k : ℕ)
+    (s : Settings) (len f : ℕ) (x : Reason) → (why_place_of s len f).placed ≡ Err x → x.cause ≡ NoPlace NoEntry → (k : ℕ)
     → k < 16 → k < s.count → MarkTrue (row s k) f (get_or (why_place_of s len f).entries k 0)
 
 -- ---- the order: "first in its row as written"

@@ -1,12 +1,11 @@
 -- "in rows 3 to 7 and 9 to 11 the number tested and what it is tested against" (02, L6), row by row and condition by condition: both in the transfer's
 -- numbers, the arrival's fields and the bytes of the place, and the test itself; of rows 10 and 11 also which of the two is asked first. Proved in proofs/Numbers.antt. Assumes nothing.
-use Rattle.std.specs.Prelude.{ℕ, ◌+◌, ◌-◌, ◌*◌, ◌/◌, ◌%◌, ◌<◌, ◌≤◌, ◌≡◌, ◌≢◌, true, false, List, length}
+use Rattle.std.specs.Prelude.{ℕ, ◌+◌, ◌-◌, ◌*◌, ◌/◌, ◌%◌, ◌<◌, ◌≤◌, ◌≡◌, ◌≢◌, true, false, List, length, Some, None}
 use Rattle.memory.specs.Bitmap.{marked_in}
 use Rattle.partitions.specs.Settings.{good_settings}
 use Rattle.uf2_block.specs.Block.{field_at, has_flag}
 use Rattle.partitions.specs.declared.Settings.{Settings}
-use Rattle.placement.specs.Place.{place_of, ram_family}
-use Rattle.placement.specs.declared.Place.TheVariants.{Nowhere, At}
+use Rattle.placement.specs.Place.{place_of, ram_family, place_from}
 use Rattle.transfer.specs.declared.Kind.TheVariants.{Flash, MainRam, XipRam}
 use Rattle.transfer.specs.declared.Head.{Head}
 use Rattle.transfer.specs.declared.Run.{Run}
@@ -27,7 +26,7 @@ use Rattle.why.specs.Why.{why_of}
 
 -- the bytes of "the place": of the family's in the flash; "in RAM check 10 uses the window"
 pub data Room (s : Settings) (w : World) (a : List ℕ) : ℕ → Type 0 where
-  in_flash : (start n : ℕ) → kind_of w a ≡ Flash → place_of s (length w.held.flash) (field_at a 28) ≡ At start n → Room s w a n
+  in_flash : (start n : ℕ) → kind_of w a ≡ Flash → place_of s (length w.held.flash) (field_at a 28) ≡ Some (place_from start n) → Room s w a n
   in_main : kind_of w a ≡ MainRam → Room s w a 532480
   in_xip : kind_of w a ≡ XipRam → Room s w a 16384
 
@@ -89,7 +88,7 @@ pub data Tested (s : Settings) (w : World) (a : List ℕ) : Cause → ℕ → �
   -- row 2: `BadByFields` has what bad settings are
   bad_settings : {x : Fault} {g n : ℕ} → good_settings s (length w.held.flash) ≡ false → Tested s w a (BadSettings x) g n
   -- row 8: `PlaceByFields` has what places are
-  no_place : {x : Denial} {g n : ℕ} → kind_of w a ≡ Flash → place_of s (length w.held.flash) (field_at a 28) ≡ Nowhere → Tested s w a (NoPlace x) g n
+  no_place : {x : Denial} {g n : ℕ} → kind_of w a ≡ Flash → place_of s (length w.held.flash) (field_at a 28) ≡ None → Tested s w a (NoPlace x) g n
   no_ram_place : {x : Denial} {g n : ℕ} → kind_of w a ≢ Flash → ram_family s (field_at a 28) ≡ false → Tested s w a (NoPlace x) g n
   -- rows 12 and 13: "transfer Done"; "Running, same family and total, number marked", and the same kind
   is_done_case : {g n : ℕ} (h : Head) → w.transfer ≡ Done h → Tested s w a Finished g n

@@ -9,7 +9,7 @@ use native.Mathlib.Omega.{arith}
 use lib.Dec.{ltb, eqb}
 use lib.ListN.{length, get_or, set, replicate, length-set, length-replicate, get_or-replicate}
 use lib.Seq.{get_or-set_same, get_or-set_other}
-use borrow.Author.Tests.{eq-eqb, ne_eqb, eqb-true, eqb-false, lt-ltb, le-ltb, ltb-true, ltb-false, not-true, not-false}
+use borrow.Author.Tests.{eq-eqb, ne_eqb, eqb-true, eqb-false, lt-ltb, le-ltb, ltb-true, ltb-false}
 use Rattle.laws.specs.Sets.{any, least}
 use Rattle.laws.proofs.Tests.{split, and_left}
 use Rattle.laws.proofs.Laws.{any_hit, any_found, least_is}
@@ -19,12 +19,12 @@ use Rattle.partitions.specs.declared.Settings.{Settings}
 use Rattle.partitions.specs.Settings.{family_rp2040, family_absolute, family_data, family_arm_s, family_risc_v, entry_at, is_a, accepts}
 use Rattle.placement.specs.declared.passes.PassQuery.{PassQuery}
 use Rattle.placement.specs.Place.{pass_query_of, pass_allows, pass_takes, used_count, ram_family}
+use Rattle.std.specs.Prelude.{Option, None, Some, Result, Ok, Err}
 use Rattle.why_place.specs.declared.Denial.{Denial}
 use Rattle.why_place.specs.declared.Denial.TheVariants.{AbsoluteOff, Rp2040, NoEntry, NotForRam}
-use Rattle.why_place.specs.declared.Access.TheVariants.{Granted, Denied}
-use Rattle.why_place.specs.declared.Spot.TheVariants as spot
+use Rattle.why_place.specs.declared.Origin.TheVariants as origin
 use Rattle.why_place.specs.declared.Rule.TheVariants.{Absolute, NoTable}
-use Rattle.why_place.specs.Parts.{denied_if, without_access}
+use Rattle.why_place.specs.Parts.{denied_if, without_access, takes_in, FirstTaken}
 use Rattle.why_place.specs.Placing.{no_table, takes_at, denies, first_denial, flash_access, ram_access, mark_for, mark_of, marks_of, taken_in, pass_has, pass_of, entry_in, table_spot, granted_spot, spot_of}
 
 -- ---- the rules for the flash, by cases
@@ -34,7 +34,7 @@ module _ (s : Settings) (f : ℕ) where
   unfolding flash_access first_denial
   flash_absolute h = split (no_table s) (λ q. rw (h, q)) (λ q. rw (h, q))
 
-  pub flash_rp2040 : f ≡ family_rp2040 → flash_access s f ≡ Denied Rp2040
+  pub flash_rp2040 : f ≡ family_rp2040 → flash_access s f ≡ Err Rp2040
   unfolding flash_access first_denial
   flash_rp2040 h = rw h
 
@@ -62,12 +62,12 @@ module _ (s : Settings) (f : ℕ) where
   ram_by = refl
 
   -- the rule that shuts a family out is one that does
-  pub denial_true : (l : List Denial) {x : Denial} → first_denial s f l ≡ Denied x → denies s f x ≡ true
+  pub denial_true : (l : List Denial) {x : Denial} → first_denial s f l ≡ Err x → denies s f x ≡ true
   unfolding first_denial
   denial_true [] h = let z : ◌≡◌ {A = ℕ} 0 1 = cc in absurd (omega arith)
   denial_true (y ∷ l) {x} h =
       split (denies s f y)
-      (λ t. let q : Denied y ≡ Denied x = rw t at h in let e : y ≡ x = cc in rw (← e) t)
+      (λ t. let q : Err y ≡ Err x = rw t at h in let e : y ≡ x = cc in rw (← e) t)
       (λ t. denial_true l (rw t at h))
 
 -- ---- the test of an entry, as the code makes it
@@ -77,10 +77,6 @@ unfolding takes_at
 takes_by table f k p q h = rw (← p, ← q) h
 
 module _ (s : Settings) (f p k : ℕ) where
-  pub taken_by_lem : {w : PassQuery} {b v : Bool} → w ≡ pass_query_of s f → b ≡ pass_takes w p (entry_at s.table k) → b ≡ v → taken_in s f p k ≡ v
-  unfolding taken_in
-  taken_by_lem q e h = ap (λ (w : PassQuery). pass_takes w p (entry_at s.table k)) (sym q) ∙ sym e ∙ h
-
   -- what a pass takes is an A entry that accepts the family
   pub taken_takes : taken_in s f p k ≡ true → takes_at s.table f k ≡ true
   unfolding taken_in takes_at pass_takes pass_query_of
@@ -100,7 +96,17 @@ module _ (s : Settings) (f : ℕ) where
       let q = any_found (takes_at s.table f) n h in
       any_hit (pass_has s f) 4 3 (omega arith) (any_hit (taken_in s f 3) n q.0 q.1 (last_takes s f q.0 q.2))
 
-  pub spot_found : (p k : ℕ) → p < 4 → k < used_count s.count → any p (pass_has s f) ≡ false → any k (taken_in s f p) ≡ false → taken_in s f p k ≡ true → spot.Entry (p + 1) k ≡ table_spot s f
+  -- what a pass takes first, as the code finds it
+  module _ (p : ℕ) {w : PassQuery} (q : w ≡ pass_query_of s f) {r : Option ℕ} (t : FirstTaken s.table w p (used_count s.count) r) where
+    pub pass_none : r ≡ None → pass_has s f p ≡ false
+    unfolding pass_has taken_in takes_in
+    pass_none e = rw (q, e) at t
+
+    pub pass_some : {k : ℕ} → r ≡ Some k → (k < used_count s.count) × (any k (taken_in s f p) ≡ false) × (taken_in s f p k ≡ true)
+    unfolding taken_in takes_in
+    pass_some e = rw (q, e) at t
+
+  pub spot_found : (p k : ℕ) → p < 4 → k < used_count s.count → any p (pass_has s f) ≡ false → any k (taken_in s f p) ≡ false → taken_in s f p k ≡ true → Ok (origin.Entry (p + 1) k) ≡ table_spot s f
   unfolding table_spot pass_of entry_in pass_has
   spot_found p k l b e q t =
       let n = used_count s.count in
@@ -110,25 +116,25 @@ module _ (s : Settings) (f : ℕ) where
 
 -- ---- a place by cases
 
-pub not_granted : {A : Type 0} {x : Denial} → Denied x ≡ Granted → A
+pub not_granted : {A : Type 0} {x : Denial} → ◌≡◌ {A = Result (Unit {0}) Denial} (Err x) (Ok tt) → A
 not_granted h = let z : ◌≡◌ {A = ℕ} 0 1 = cc in absurd (omega arith)
 
-pub granted_if : (b : Bool) (x : Denial) → denied_if (not b) x ≡ Granted → b ≡ true
+pub granted_if : (b : Bool) (x : Denial) → denied_if (not b) x ≡ Ok tt → b ≡ true
 granted_if true x h = refl
 granted_if false x h = not_granted h
 
 module _ (s : Settings) (f : ℕ) where
-  pub spot_refused : {x : Denial} → flash_access s f ≡ Denied x → spot_of s f ≡ spot.Refused x
+  pub spot_refused : {x : Denial} → flash_access s f ≡ Err x → spot_of s f ≡ Err x
   unfolding spot_of
   spot_refused h = rw h
 
-  module _ (h : flash_access s f ≡ Granted) where
-    pub spot_absolute : f ≡ family_absolute → spot_of s f ≡ spot.Whole Absolute
+  module _ (h : flash_access s f ≡ Ok tt) where
+    pub spot_absolute : f ≡ family_absolute → spot_of s f ≡ Ok (origin.Whole Absolute)
     unfolding spot_of granted_spot
     spot_absolute a = rw (h, eq-eqb f family_absolute a)
 
     module _ (na : f ≢ family_absolute) where
-      pub spot_whole : s.count ≡ 0 → spot_of s f ≡ spot.Whole NoTable
+      pub spot_whole : s.count ≡ 0 → spot_of s f ≡ Ok (origin.Whole NoTable)
       unfolding spot_of granted_spot
       spot_whole z = rw (h, ne_eqb f family_absolute na, eq-eqb s.count 0 z)
 
@@ -143,18 +149,6 @@ module _ (s : Settings) (f : ℕ) where
       granted_takes z = granted_if (any (used_count s.count) (takes_at s.table f)) NoEntry (sym (flash_table s f na granted_other z) ∙ h)
 
 -- ---- the marks
-
--- the mark of one entry, as the code makes it
-module _ (e : settings.Entry) (f : ℕ) {a : Bool} (h : a ≡ is_a e) where
-  pub mark_b : not a ≡ true → 1 ≡ mark_for e f
-  mark_b t = rw (← h, not-true a t)
-
-  module _ (t : not a ≡ false) {b : Bool} (q : b ≡ accepts e f) where
-    pub mark_takes : b ≡ true → 0 ≡ mark_for e f
-    mark_takes y = rw (← h, not-false a t, ← q, y)
-
-    pub mark_other : b ≡ false → 2 ≡ mark_for e f
-    mark_other y = rw (← h, not-false a t, ← q, y)
 
 -- the marks of the entries before k, and 0 from there on
 unfoldable pub MarkedTo : Settings → ℕ → ℕ → List ℕ → Type 0

@@ -6,20 +6,18 @@ use mathlib.Core.Bool.{Bool, true, false, not, ◌&&◌, ◌||◌}
 use native.Mathlib.Omega.{arith}
 use lib.Dec.{eqb}
 use borrow.Author.Tests.{eqb-true, eqb-false, lt-ltb, not-true}
+use Rattle.std.specs.Prelude.{Some, None}
 use Rattle.laws.specs.Sets.{any}
 use Rattle.laws.proofs.Tests.{split, clash, is_false, and_right}
 use Rattle.laws.proofs.Laws.{any_all, least_below}
 use Rattle.partitions.specs.declared.Settings.{Settings}
 use Rattle.partitions.specs.Settings.{family_rp2040, family_absolute, family_data, family_arm_s, family_risc_v, entry_at, is_a, accepts}
-use Rattle.placement.specs.declared.Choice.TheVariants.{Nothing, Entry}
-use Rattle.placement.specs.declared.Place.TheVariants.{Nowhere, At}
-use Rattle.placement.specs.Place.{pass_query_of, in_pass, chosen, used_count, chosen_entry, gets_whole, place_of, ram_family}
+use Rattle.placement.specs.Place.{pass_query_of, in_pass, chosen, used_count, chosen_entry, gets_whole, place_of, ram_family, place_from}
 use Rattle.placement.proofs.First.{first_hit, first_none, if_taken, if_passed}
 use Rattle.placement.proofs.Laws.{place_absolute, place_rp2040, place_whole, place_table}
+use Rattle.std.specs.Prelude.{Result, Ok, Err}
 use Rattle.why_place.specs.declared.Denial.{Denial}
 use Rattle.why_place.specs.declared.Denial.TheVariants.{AbsoluteOff, ArmOff, RiscvOff, NoEntry, NotForRam}
-use Rattle.why_place.specs.declared.Access.{Access}
-use Rattle.why_place.specs.declared.Access.TheVariants.{Granted, Denied}
 use Rattle.why_place.specs.Parts.{denied_if, without_access}
 use Rattle.why_place.specs.Placing.{no_table, takes_at, flash_denials, flash_access, mark_for, mark_of, taken_in, pass_has, pass_of, entry_in, table_spot, spot_of, spot_place, FirstMatch, Marked, GrantedIsPlaced, GrantedIsForRam, SpotIsPlaced, MarksAreTrue, PlaceIsTrue}
 use Rattle.why_place.proofs.Laws.{flash_absolute, flash_rp2040, flash_whole, flash_table, ram_by, denial_true, taken_takes, takes_pass, granted_if, spot_refused, spot_absolute, spot_whole, spot_table, granted_other, granted_takes}
@@ -43,7 +41,7 @@ module _ (s : Settings) (f : ℕ) where
       }
 
   -- and it is the entry that the passes choose
-  chosen_match : (p k : ℕ) → FirstMatch s f p k → chosen_entry s f ≡ Entry k
+  chosen_match : (p k : ℕ) → FirstMatch s f p k → chosen_entry s f ≡ Some k
   unfolding chosen_entry chosen in_pass taken_in
   chosen_match p k m =
       let w = pass_query_of s f in
@@ -52,7 +50,7 @@ module _ (s : Settings) (f : ℕ) where
       (first_none _ p (λ q l. first_none _ n (λ j b. if_passed s.table w q j (m.earlier q l j b))))
       (first_hit _ n k m.used (first_none _ k (λ j b. if_passed s.table w p j (m.before j b))) (if_taken s.table w p k m.taken))
 
-  chosen_none : any (used_count s.count) (takes_at s.table f) ≡ false → chosen_entry s f ≡ Nothing
+  chosen_none : any (used_count s.count) (takes_at s.table f) ≡ false → chosen_entry s f ≡ None
   unfolding chosen_entry chosen in_pass taken_in
   chosen_none h =
       let n = used_count s.count in
@@ -65,13 +63,13 @@ module _ (s : Settings) (f : ℕ) where
 
 -- ---- the place of a spot
 
-by_access : {A : Type 0} (a : Access) → ((x : Denial) → a ≡ Denied x → A) → (a ≡ Granted → A) → A
-by_access Granted d g = g refl
-by_access (Denied x) d g = d x refl
+by_access : {A : Type 0} (a : Result (Unit {0}) Denial) → ((x : Denial) → a ≡ Err x → A) → (a ≡ Ok tt → A) → A
+by_access (Ok u) d g = g refl
+by_access (Err x) d g = d x refl
 
-abbrev granted : Access → Bool
-granted Granted = true
-granted (Denied x) = false
+abbrev granted : Result (Unit {0}) Denial → Bool
+granted (Ok u) = true
+granted (Err x) = false
 
 -- without a table
 whole_gets : (arm riscv : Bool) (f : ℕ) → gets_whole arm riscv f ≡ granted (without_access arm riscv f)
@@ -92,7 +90,7 @@ whole_gets arm riscv f =
     last true = refl
     last false = refl
 
-denied_none : (b : Bool) (y : Denial) {x : Denial} → denied_if (not b) y ≡ Denied x → b ≡ false
+denied_none : (b : Bool) (y : Denial) {x : Denial} → denied_if (not b) y ≡ Err x → b ≡ false
 denied_none true y h = let z : ◌≡◌ {A = ℕ} 0 1 = cc in absurd (omega arith)
 denied_none false y h = refl
 
@@ -100,8 +98,8 @@ module _ (s : Settings) (len f : ℕ) where
   absolute_placed : f ≡ family_absolute → spot_place s len (spot_of s f) ≡ place_of s len f
   absolute_placed e =
       split s.absolute
-      (λ b. let h : flash_access s f ≡ Granted = flash_absolute s f e ∙ rw b in rw (spot_absolute s f h e, place_absolute s len f e, b))
-      (λ b. let h : flash_access s f ≡ Denied AbsoluteOff = flash_absolute s f e ∙ rw b in rw (spot_refused s f h, place_absolute s len f e, b))
+      (λ b. let h : flash_access s f ≡ Ok tt = flash_absolute s f e ∙ rw b in rw (spot_absolute s f h e, place_absolute s len f e, b))
+      (λ b. let h : flash_access s f ≡ Err AbsoluteOff = flash_absolute s f e ∙ rw b in rw (spot_refused s f h, place_absolute s len f e, b))
 
   rp2040_placed : f ≡ family_rp2040 → spot_place s len (spot_of s f) ≡ place_of s len f
   rp2040_placed e = rw (spot_refused s f (flash_rp2040 s f e), place_rp2040 s len f e)
@@ -144,10 +142,10 @@ spot_is_placed s len f =
 -- ---- shut out exactly where there is no place
 
 module _ (s : Settings) (len f : ℕ) where
-  somewhere : (a n : ℕ) → At a n ≢ Nowhere
+  somewhere : (a n : ℕ) → Some (place_from a n) ≢ None
   somewhere a n h = let z : ◌≡◌ {A = ℕ} 0 1 = cc in absurd (omega arith)
 
-  granted_somewhere : flash_access s f ≡ Granted → spot_place s len (spot_of s f) ≢ Nowhere
+  granted_somewhere : flash_access s f ≡ Ok tt → spot_place s len (spot_of s f) ≢ None
   unfolding table_spot
   granted_somewhere h e =
       split (eqb f family_absolute)
@@ -158,10 +156,10 @@ module _ (s : Settings) (len f : ℕ) where
       (λ z. let q = rw (spot_whole s f h na (eqb-true s.count 0 z)) at e in somewhere 0 len q)
       (λ z. let q = rw (spot_table s f h na (eqb-false s.count 0 z)) at e in somewhere _ _ q))
 
-  granted_placed : flash_access s f ≡ Granted → place_of s len f ≢ Nowhere
+  granted_placed : flash_access s f ≡ Ok tt → place_of s len f ≢ None
   granted_placed h e = granted_somewhere h (spot_is_placed s len f ∙ e)
 
-  placed_granted : place_of s len f ≢ Nowhere → flash_access s f ≡ Granted
+  placed_granted : place_of s len f ≢ None → flash_access s f ≡ Ok tt
   placed_granted n =
       by_access (flash_access s f)
       (λ x h. absurd (n (sym (spot_is_placed s len f) ∙ ap (spot_place s len) (spot_refused s f h))))

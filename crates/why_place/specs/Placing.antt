@@ -1,21 +1,18 @@
 -- Row 8 by its rules: what shuts a family out of the flash or of RAM, what turns each entry down, and which pass and entry, or which rule for the whole
 -- flash, a place comes from (01, "Settings and the place of a family"; 02, L6, L8). Assumes nothing.
-use Rattle.std.specs.Prelude.{ℕ, suc, ◌<◌, ◌≡◌, ◌↔◌, ◌≢◌, ◌⊎◌, Bool, true, false, cond, not, ◌&&◌, ◌||◌, List, [], ◌∷◌, ltb, eqb}
+use Rattle.std.specs.Prelude.{ℕ, suc, ◌<◌, ◌≡◌, ◌↔◌, ◌≢◌, ◌⊎◌, Bool, true, false, cond, not, ◌&&◌, ◌||◌, List, [], ◌∷◌, ltb, eqb, Option, Some, None, Result, Ok, Err}
 use Rattle.laws.specs.Sets.{any, least}
 use Rattle.laws.specs.Tab.{tab}
 use Rattle.partitions.specs.declared.Entry.{Entry}
 use Rattle.partitions.specs.declared.Settings.{Settings}
 use Rattle.partitions.specs.Settings.{family_rp2040, family_absolute, family_data, family_arm_s, family_risc_v, entry_at, is_a, accepts}
 use Rattle.placement.specs.declared.Place.{Place}
-use Rattle.placement.specs.declared.Place.TheVariants.{Nowhere, At}
-use Rattle.placement.specs.Place.{pass_query_of, pass_takes, used_count, gets_whole, bytes_of, place_of, ram_family}
+use Rattle.placement.specs.Place.{pass_query_of, pass_takes, used_count, gets_whole, bytes_of, place_of, ram_family, place_from}
 use Rattle.why_place.specs.declared.Denial.{Denial}
 use Rattle.why_place.specs.declared.Denial.TheVariants.{AbsoluteOff, Rp2040, ArmOff, RiscvOff, NotWithoutTable, NoEntry, NotForRam}
-use Rattle.why_place.specs.declared.Access.{Access}
-use Rattle.why_place.specs.declared.Access.TheVariants.{Granted, Denied}
 use Rattle.why_place.specs.declared.Rule.TheVariants.{Absolute, NoTable}
-use Rattle.why_place.specs.declared.Spot.{Spot}
-use Rattle.why_place.specs.declared.Spot.TheVariants as spot
+use Rattle.why_place.specs.declared.Origin.{Origin}
+use Rattle.why_place.specs.declared.Origin.TheVariants as origin
 
 -- ---- what shuts a family out
 
@@ -59,9 +56,9 @@ denies s f NoEntry = not (no_table s) && not (eqb f family_absolute) && not (any
 denies s f NotForRam = not (ram_family s f)
 
 -- the first rule of a list that shuts the family out
-unfoldable pub first_denial : Settings → ℕ → List Denial → Access
-first_denial s f [] = Granted
-first_denial s f (x ∷ l) = cond (denies s f x) (Denied x) (first_denial s f l)
+unfoldable pub first_denial : Settings → ℕ → List Denial → Result (Unit {0}) Denial
+first_denial s f [] = Ok tt
+first_denial s f (x ∷ l) = cond (denies s f x) (Err x) (first_denial s f l)
 
 -- the rules for the flash, in 01's order
 abbrev pub flash_denials : List Denial
@@ -71,16 +68,16 @@ flash_denials = AbsoluteOff ∷ Rp2040 ∷ ArmOff ∷ RiscvOff ∷ NotWithoutTab
 abbrev pub ram_denials : List Denial
 ram_denials = NotForRam ∷ []
 
-unfoldable pub flash_access : Settings → ℕ → Access
+unfoldable pub flash_access : Settings → ℕ → Result (Unit {0}) Denial
 flash_access s f = first_denial s f flash_denials
 
-unfoldable pub ram_access : Settings → ℕ → Access
+unfoldable pub ram_access : Settings → ℕ → Result (Unit {0}) Denial
 ram_access s f = first_denial s f ram_denials
 
 -- the number of the rule, and 0 where none shuts the family out
-abbrev pub access_number : Access → ℕ
-access_number Granted = 0
-access_number (Denied x) = denial_number x
+abbrev pub access_number : Result (Unit {0}) Denial → ℕ
+access_number (Ok u) = 0
+access_number (Err x) = denial_number x
 
 -- ---- what turns an entry down
 
@@ -114,44 +111,44 @@ unfoldable pub entry_in : Settings → ℕ → ℕ → ℕ
 entry_in s f p = least (used_count s.count) (taken_in s f p)
 
 -- the entry that the passes choose: 01's passes are 1 to 4
-unfoldable pub table_spot : Settings → ℕ → Spot
-table_spot s f = spot.Entry (suc (pass_of s f)) (entry_in s f (pass_of s f))
+unfoldable pub table_spot : Settings → ℕ → Result Origin Denial
+table_spot s f = Ok (origin.Entry (suc (pass_of s f)) (entry_in s f (pass_of s f)))
 
 -- the rule or the pass that gives a place, for a family that is not shut out
-unfoldable pub granted_spot : Settings → ℕ → Spot
+unfoldable pub granted_spot : Settings → ℕ → Result Origin Denial
 granted_spot s f =
-    cond (eqb f family_absolute) (spot.Whole Absolute)
-    (cond (no_table s) (spot.Whole NoTable)
+    cond (eqb f family_absolute) (Ok (origin.Whole Absolute))
+    (cond (no_table s) (Ok (origin.Whole NoTable))
     (table_spot s f))
 
-abbrev pub spot_by : Access → Spot → Spot
-spot_by (Denied x) y = spot.Refused x
-spot_by Granted y = y
+abbrev pub spot_by : Result (Unit {0}) Denial → Result Origin Denial → Result Origin Denial
+spot_by (Err x) y = Err x
+spot_by (Ok u) y = y
 
-unfoldable pub spot_of : Settings → ℕ → Spot
+unfoldable pub spot_of : Settings → ℕ → Result Origin Denial
 spot_of s f = spot_by (flash_access s f) (granted_spot s f)
 
 -- the rule's number where the family is shut out; else 1 for absolute, 2 for no table, 3 for an entry
-abbrev pub spot_number : Spot → ℕ
-spot_number (spot.Refused x) = denial_number x
-spot_number (spot.Whole Absolute) = 1
-spot_number (spot.Whole NoTable) = 2
-spot_number (spot.Entry p k) = 3
+abbrev pub spot_number : Result Origin Denial → ℕ
+spot_number (Err x) = denial_number x
+spot_number (Ok (origin.Whole Absolute)) = 1
+spot_number (Ok (origin.Whole NoTable)) = 2
+spot_number (Ok (origin.Entry p k)) = 3
 
 -- ---- the claims, proved in proofs/Theorems.antt
 
 -- the place that a spot stands for, in a flash of len bytes
-abbrev pub spot_place : Settings → ℕ → Spot → Place
-spot_place s len (spot.Refused x) = Nowhere
-spot_place s len (spot.Whole r) = At 0 len
-spot_place s len (spot.Entry p k) = bytes_of (entry_at s.table k)
+abbrev pub spot_place : Settings → ℕ → Result Origin Denial → Option Place
+spot_place s len (Err x) = None
+spot_place s len (Ok (origin.Whole r)) = Some (place_from 0 len)
+spot_place s len (Ok (origin.Entry p k)) = bytes_of (entry_at s.table k)
 
 -- a family is shut out of the flash exactly where it has no place, for all settings
 abbrev pub GrantedIsPlaced : Type 0
-GrantedIsPlaced = (s : Settings) (len f : ℕ) → (flash_access s f ≡ Granted) ↔ (place_of s len f ≢ Nowhere)
+GrantedIsPlaced = (s : Settings) (len f : ℕ) → (flash_access s f ≡ Ok tt) ↔ (place_of s len f ≢ None)
 
 abbrev pub GrantedIsForRam : Type 0
-GrantedIsForRam = (s : Settings) (f : ℕ) → (ram_access s f ≡ Granted) ↔ (ram_family s f ≡ true)
+GrantedIsForRam = (s : Settings) (f : ℕ) → (ram_access s f ≡ Ok tt) ↔ (ram_family s f ≡ true)
 
 -- the place is that of the spot
 abbrev pub SpotIsPlaced : Type 0
@@ -164,7 +161,7 @@ Marked e f m = ((m ≡ 1) × (is_a e ≡ false)) ⊎ ((m ≡ 2) × (is_a e ≡ t
 -- where no entry accepts the family, each used entry has a mark, and it is true
 abbrev pub MarksAreTrue : Type 0
 MarksAreTrue =
-    (s : Settings) (f : ℕ) → flash_access s f ≡ Denied NoEntry → (k : ℕ) → k < used_count s.count
+    (s : Settings) (f : ℕ) → flash_access s f ≡ Err NoEntry → (k : ℕ) → k < used_count s.count
     → Marked (entry_at s.table k) f (mark_of s f k)
 
 -- "ending at the first match": no earlier pass takes an entry, this pass takes none before entry k, and it takes entry k, which is used
@@ -176,11 +173,11 @@ pub record FirstMatch (s : Settings) (f p k : ℕ) : Type 0 where
   pub taken : taken_in s f p k ≡ true
 
 -- what a place that is found tells: absolute is the family and is allowed; there is no table and the family is one of 01's three; or the first match
-abbrev pub SpotTrue : Settings → ℕ → Spot → Type 0
-SpotTrue s f (spot.Refused x) = flash_access s f ≡ Denied x
-SpotTrue s f (spot.Whole Absolute) = (f ≡ family_absolute) × (s.absolute ≡ true)
-SpotTrue s f (spot.Whole NoTable) = (s.count ≡ 0) × (f ≢ family_absolute) × (gets_whole s.arm s.riscv f ≡ true)
-SpotTrue s f (spot.Entry p k) = (q : ℕ) × (p ≡ suc q) × FirstMatch s f q k
+abbrev pub SpotTrue : Settings → ℕ → Result Origin Denial → Type 0
+SpotTrue s f (Err x) = flash_access s f ≡ Err x
+SpotTrue s f (Ok (origin.Whole Absolute)) = (f ≡ family_absolute) × (s.absolute ≡ true)
+SpotTrue s f (Ok (origin.Whole NoTable)) = (s.count ≡ 0) × (f ≢ family_absolute) × (gets_whole s.arm s.riscv f ≡ true)
+SpotTrue s f (Ok (origin.Entry p k)) = (q : ℕ) × (p ≡ suc q) × FirstMatch s f q k
 
 abbrev pub PlaceIsTrue : Type 0
 PlaceIsTrue = (s : Settings) (f : ℕ) → SpotTrue s f (spot_of s f)

@@ -17,9 +17,10 @@ ghost use Rattle.why_place.specs.Placing.{
   spot_of,
   spot_number,
 };
-ghost use Rattle.why_place.specs.Parts.{denied_if, without_access};
+ghost use Rattle.why_place.specs.Parts.{denied_if, without_access, FirstTaken};
 
 use partitions::{Entry, Family, Settings};
+use placement::passes::PassQuery;
 
 // The setting or rule that shuts a family out: five of the flash without asking the table, one of the table, one of RAM.
 #[derive(Clone, Copy)]
@@ -33,12 +34,6 @@ pub enum Denial {
     NotForRam,
 }
 
-#[derive(Clone, Copy)]
-pub enum Access {
-    Granted,
-    Denied(Denial),
-}
-
 // The rules that give the whole flash.
 #[derive(Clone, Copy)]
 pub enum Rule {
@@ -46,10 +41,9 @@ pub enum Rule {
     NoTable,
 }
 
-// Where a place comes from; 01's passes are 1 to 4.
+// Where a place comes from: the rule that gives the whole flash, or the pass, 1 to 4, and the entry.
 #[derive(Clone, Copy)]
-pub enum Spot {
-    Refused(Denial),
+pub enum Origin {
     Whole(Rule),
     Entry { pass: u8, entry: u8 },
 }
@@ -70,38 +64,33 @@ impl Denial {
     }
 }
 
-fn denied_if(yes: bool, denial: Denial) -> Access
+fn denied_if(yes: bool, denial: Denial) -> Result<(), Denial>
     ensures { result ≡ denied_if yes denial }
 {
-    if yes {
-        Access::Denied(denial)
-    } else {
-        Access::Granted
-    }
+    if yes { Err(denial) } else { Ok(()) }
 }
 
 // Does an A entry that is used accept the family?
+#[tactic(auto, using(laws::proofs::Laws::any_zero, laws::proofs::Laws::any_more, placement::proofs::Laws::used_most), unfolding(crate::specs::Placing::takes_at))]
 fn any_takes(settings: Settings, family: u32) -> bool
     ensures { result ≡ any (used_count settings.count) (takes_at settings.table family) }
 {
-    let n = placement::passes::used_count(settings.count);
-    let mut k: usize = 0;
-    while k < n {
+    for k in 0..placement::passes::used_count(settings.count) {
         let e = settings.table[k];
         if partitions::is_a(e) & partitions::accepts_family(e, family) {
             return true;
         }
-        k += 1;
     }
     false
 }
 
 // May a family that is neither absolute nor rp2040 have the flash where there is no table?
-fn without_table(arm: bool, riscv: bool, family: u32) -> Access
+#[tactic(auto, unfolding(crate::specs::Parts::without_access))]
+fn without_table(arm: bool, riscv: bool, family: u32) -> Result<(), Denial>
     ensures { result ≡ without_access arm riscv family }
 {
     if family == Family::DATA {
-        return Access::Granted;
+        return Ok(());
     }
     if family == Family::ARM_S {
         return denied_if(!arm, Denial::ArmOff);
@@ -109,18 +98,19 @@ fn without_table(arm: bool, riscv: bool, family: u32) -> Access
     if family == Family::RISCV {
         return denied_if(!riscv, Denial::RiscvOff);
     }
-    Access::Denied(Denial::NotWithoutTable)
+    Err(Denial::NotWithoutTable)
 }
 
 // Does a rule shut the family out of the flash, and which first?
-pub fn flash_access(settings: Settings, family: u32) -> Access
+#[tactic(auto, using(crate::proofs::Laws::flash_absolute, crate::proofs::Laws::flash_rp2040, crate::proofs::Laws::flash_whole, crate::proofs::Laws::flash_table))]
+pub fn flash_access(settings: Settings, family: u32) -> Result<(), Denial>
     ensures { numbered access_number result ≡ numbered access_number (flash_access settings family) }
 {
     if family == Family::ABSOLUTE {
         return denied_if(!settings.absolute, Denial::AbsoluteOff);
     }
     if family == Family::RP2040 {
-        return Access::Denied(Denial::Rp2040);
+        return Err(Denial::Rp2040);
     }
     if settings.count == 0 {
         return without_table(settings.arm, settings.riscv, family);
@@ -129,7 +119,8 @@ pub fn flash_access(settings: Settings, family: u32) -> Access
 }
 
 // Does the rule for RAM shut the family out?
-pub fn ram_access(settings: Settings, family: u32) -> Access
+#[tactic(auto, using(crate::proofs::Laws::ram_by))]
+pub fn ram_access(settings: Settings, family: u32) -> Result<(), Denial>
     ensures { numbered access_number result ≡ numbered access_number (ram_access settings family) }
 {
     denied_if(
@@ -152,60 +143,59 @@ fn mark(e: Entry, family: u32) -> u8
 }
 
 // The marks of all 16 entries.
+#[tactic(auto, using(placement::proofs::Laws::used_most, crate::proofs::Laws::marked_none, crate::proofs::Laws::marked_more, crate::proofs::Laws::marked_all))]
 pub fn marks(settings: Settings, family: u32) -> [u8; 16]
     ensures { result ≡ marks_of settings family }
 {
     let mut out: [u8; 16] = [0; 16];
-    let n = placement::passes::used_count(settings.count);
-    let mut k: usize = 0;
-    while k < n {
-        let e = settings.table[k];
-        out[k] = mark(e, family);
-        k += 1;
+    for k in 0..placement::passes::used_count(settings.count) {
+        out[k] = mark(settings.table[k], family);
     }
     out
 }
 
+// The first used entry that a pass takes.
+#[tactic(auto, using(laws::proofs::Laws::any_zero, laws::proofs::Laws::any_more, placement::proofs::Laws::used_most), unfolding(crate::specs::Parts::takes_in))]
+fn first_taken(settings: Settings, w: PassQuery, pass: usize) -> Option<u8>
+    ensures { FirstTaken settings.table w pass (used_count settings.count) result }
+{
+    for k in 0..placement::passes::used_count(settings.count) {
+        if placement::passes::takes(w, pass, settings.table[k]) {
+            return Some(k as u8);
+        }
+    }
+    None
+}
+
 // The first pass that takes an entry, and the first entry that it takes.
-fn in_table(settings: Settings, family: u32) -> Spot
+#[tactic(auto, using(laws::proofs::Laws::any_zero, laws::proofs::Laws::any_more, crate::proofs::Laws::pass_none))]
+fn in_table(settings: Settings, family: u32) -> Result<Origin, Denial>
     requires { any (used_count settings.count) (takes_at settings.table family) ≡ true }
     ensures { result ≡ table_spot settings family }
 {
-    let n = placement::passes::used_count(settings.count);
     let w = placement::passes::query(settings, family);
-    let mut pass: usize = 0;
-    let found = 'search: loop {
-        if 4 <= pass {
-            break 'search Spot::Refused(Denial::NoEntry);
+    for pass in 0..4 {
+        if let Some(entry) = first_taken(settings, w, pass) {
+            return Ok(Origin::Entry {
+                pass: pass as u8 + 1,
+                entry,
+            });
         }
-        let mut k: usize = 0;
-        while k < n {
-            let e = settings.table[k];
-            if placement::passes::takes(w, pass, e) {
-                break 'search Spot::Entry {
-                    pass: pass as u8 + 1,
-                    entry: k as u8,
-                };
-            }
-            k += 1;
-        }
-        pass += 1;
-    };
-    found
+    }
+    Err(Denial::NoEntry)
 }
 
 // Where the place of a family comes from, or what shuts it out.
-pub fn locate(settings: Settings, family: u32) -> Spot
+#[tactic(auto, using(crate::proofs::Laws::spot_refused, crate::proofs::Laws::spot_absolute, crate::proofs::Laws::spot_whole, crate::proofs::Laws::spot_table, crate::proofs::Laws::granted_takes))]
+pub fn locate(settings: Settings, family: u32) -> Result<Origin, Denial>
     ensures { numbered spot_number result ≡ numbered spot_number (spot_of settings family) }
 {
-    if let Access::Denied(x) = flash_access(settings, family) {
-        return Spot::Refused(x);
-    }
+    flash_access(settings, family)?;
     if family == Family::ABSOLUTE {
-        return Spot::Whole(Rule::Absolute);
+        return Ok(Origin::Whole(Rule::Absolute));
     }
     if settings.count == 0 {
-        return Spot::Whole(Rule::NoTable);
+        return Ok(Origin::Whole(Rule::NoTable));
     }
     in_table(settings, family)
 }

@@ -2,55 +2,46 @@
 use Prim.Native.Nat.{ℕ, zero, suc, ◌+◌, ◌≤◌, ◌<◌}
 use mathlib.Core.Path.{◌≡◌, refl, sym, ap, ◌∙◌}
 use mathlib.Core.Logic.{⊎_elim, ◌≢◌}
-use mathlib.Core.Bool.{Bool, true, false, cond, not, ◌&&◌, ◌||◌, and-false}
-use mathlib.Core.List.{List, [], ◌∷◌, ◌++◌, map}
+use mathlib.Core.Bool.{Bool, true, false, cond, ◌||◌}
+use mathlib.Core.List.{List, [], ◌∷◌, ◌++◌}
 use native.Mathlib.Nat.{le_of_suc-le-suc, not-suc-le-zero, eq-or-lt_of_le, le_refl, le_step}
 use native.Mathlib.Numerals.{add-one}
 use native.Mathlib.Omega.{arith}
-use lib.Dec.{ltb, leb}
-use lib.ListN.{length, get_or, length-map, get_or-eq_default}
+use lib.Dec.{ltb}
+use lib.ListN.{get_or}
 use borrow.Author.Tests.{ne_eqb, lt-ltb, le-ltb}
 use Rattle.laws.specs.Sets.{any, least}
 use Rattle.laws.proofs.Tests.{split, and_right}
 use Rattle.laws.proofs.Laws.{any_all, least_below, least_none}
 use Rattle.partitions.specs.declared.Entry.{Entry}
 use Rattle.partitions.specs.declared.Settings.{Settings}
-use Rattle.partitions.specs.Settings.{is_a, is_unowned, link_target, empty_entry, is_reserved, reserved_at, entry_at, shares_with, no_sectors, runs_past, links_up, links_to_b, many_users, reserved_user, enabled}
+use Rattle.partitions.specs.Settings.{is_reserved, reserved_at, entry_at, shares_with, no_sectors, runs_past, links_up, links_to_b, many_users, reserved_user, enabled}
 use Rattle.why_settings.specs.declared.Fault.{Fault}
 use Rattle.why_settings.specs.declared.Fault.TheVariants.{ArchOff, CountOver, NoSectors, PastFlash, Shares, LinksUp, LinksToB, ManyUsers, ReservedUser}
-use Rattle.why_settings.specs.declared.Finding.{Finding}
-use Rattle.why_settings.specs.declared.Finding.TheVariants.{Sound, Bad}
-use Rattle.why_settings.specs.declared.Comparison.{Comparison}
-use Rattle.why_settings.specs.Faults.{fault_in, each, sharing, condition_at, condition_for, faults_of, bad_if, first_in, first_shared, first_fault, first_reserved, tested_of}
+use Rattle.std.specs.Prelude.{Option, None, Some}
+use Rattle.std.specs.Bool.{then_some}
+use Rattle.why_settings.specs.Faults.{fault_in, each, sharing, condition_at, condition_for, faults_of, bad_if, first_in, first_shared, first_fault, first_reserved}
+
+-- a fault where a test holds, as the library says it
+pub bad_is : (b : Bool) (x : Fault) → then_some b x ≡ bad_if b x
+bad_is true x = refl
+bad_is false x = refl
 
 -- ---- the first user family that is reserved
 
 module _ (e : Entry) where
-  pub reserved_by : (k : ℕ) {b v : Bool} → b ≡ is_reserved (get_or e.users k 0) → ltb k e.user_count && b ≡ v → reserved_at e k ≡ v
-  reserved_by k h t = ap (λ (b : Bool). ltb k e.user_count && b) (sym h) ∙ t
-
-  pub reserved_0 : reserved_at e 0 ≡ true → get_or e.users 0 0 ≡ first_reserved e
+  -- the first of the four, as a loop meets it
+  pub reserved_hit : (k : ℕ) → k < 4 → ((j : ℕ) → j < k → reserved_at e j ≡ false) → reserved_at e k ≡ true → get_or e.users k 0 ≡ first_reserved e
   unfolding first_reserved
-  reserved_0 h = rw h
+  reserved_hit zero l n h = rw h
+  reserved_hit (suc zero) l n h = rw (n 0 (omega arith), h)
+  reserved_hit (suc (suc zero)) l n h = rw (n 0 (omega arith), n 1 (omega arith), h)
+  reserved_hit (suc (suc (suc zero))) l n h = rw (n 0 (omega arith), n 1 (omega arith), n 2 (omega arith), h)
+  reserved_hit (suc (suc (suc (suc k)))) l n h = absurd (omega arith)
 
-  module _ (n0 : reserved_at e 0 ≡ false) where
-    pub reserved_1 : reserved_at e 1 ≡ true → get_or e.users 1 0 ≡ first_reserved e
-    unfolding first_reserved
-    reserved_1 h = rw (n0, h)
-
-    module _ (n1 : reserved_at e 1 ≡ false) where
-      pub reserved_2 : reserved_at e 2 ≡ true → get_or e.users 2 0 ≡ first_reserved e
-      unfolding first_reserved
-      reserved_2 h = rw (n0, n1, h)
-
-      module _ (n2 : reserved_at e 2 ≡ false) where
-        pub reserved_3 : reserved_at e 3 ≡ true → get_or e.users 3 0 ≡ first_reserved e
-        unfolding first_reserved
-        reserved_3 h = rw (n0, n1, n2, h)
-
-        pub reserved_none : reserved_at e 3 ≡ false → 0 ≡ first_reserved e
-        unfolding first_reserved
-        reserved_none h = rw (n0, n1, n2, h)
+  pub reserved_none : ((j : ℕ) → j < 4 → reserved_at e j ≡ false) → 0 ≡ first_reserved e
+  unfolding first_reserved
+  reserved_none n = rw (n 0 (omega arith), n 1 (omega arith), n 2 (omega arith), n 3 (omega arith))
 
 -- it tells whether there is one
 pub reserved_user_case : (e : Entry) → is_reserved (first_reserved e) ≡ reserved_user e
@@ -84,44 +75,11 @@ shared_by table n k j h =
     (λ q. rw (q, lt-ltb (least n (shares_with table k)) n (least_below (shares_with table k) n q).0))
     (λ q. rw (q, le-ltb (least n (shares_with table k)) n (omega (arith, least_none (shares_with table k) n q)))))
 
--- ---- a link
-
--- the length of a table, from that of the list of its values
-pub length_mapped : {A B : Type 0} (f : A → B) (l : List A) (n : ℕ) → length (map f l) ≡ n → length l ≡ n
-length_mapped f l n h = sym (length-map l f) ∙ h
-
-module _ (table : List Entry) (k : ℕ) where
-  pub link_none : is_unowned (entry_at table k) ≡ true → false ≡ links_to_b table k
-  link_none u = rw u
-
-  pub up_by : {u : Bool} {j : ℕ} → u ≡ is_unowned (entry_at table k) → j ≡ link_target (entry_at table k).link → not u && leb k j ≡ links_up table k
-  up_by h e = rw (h, e)
-
-  -- past the table's end no entry is linked
-  pub link_from_past : length table ≡ 16 → 16 ≤ k → false ≡ links_to_b table k
-  link_from_past l h =
-      let e : entry_at table k ≡ empty_entry = get_or-eq_default table empty_entry (omega (arith, l, h)) in
-      rw e
-
-  -- past the table's end there is no entry that is "B of"
-  pub link_past : length table ≡ 16 → 16 ≤ link_target (entry_at table k).link → false ≡ links_to_b table k
-  link_past l h =
-      let e : entry_at table (link_target (entry_at table k).link) ≡ empty_entry = get_or-eq_default table empty_entry (omega (arith, l, h)) in
-      rw (e, and-false (not (is_unowned (entry_at table k))))
-
-  pub link_there : {b : Bool} {j : ℕ} → is_unowned (entry_at table k) ≡ false → j ≡ link_target (entry_at table k).link → b ≡ is_a (entry_at table j) → not b ≡ links_to_b table k
-  link_there u h e = rw (u, e, h)
-
--- ---- the numbers of a fault that is known
-
-pub tested_as : (s : Settings) (len : ℕ) {x y : Fault} {t : Comparison} → x ≡ y → t ≡ tested_of s len y → t ≡ tested_of s len x
-tested_as s len h e = e ∙ ap (tested_of s len) (sym h)
-
 -- ---- the first of several lists
 
-abbrev or_next : Finding → Finding → Finding
-or_next Sound y = y
-or_next (Bad x) y = Bad x
+abbrev or_next : Option Fault → Option Fault → Option Fault
+or_next None y = y
+or_next (Some x) y = Some x
 
 module _ (s : Settings) (len : ℕ) where
   first_join : (l m : List Fault) → first_in s len (l ++ m) ≡ or_next (first_in s len l) (first_in s len m)
@@ -129,7 +87,7 @@ module _ (s : Settings) (len : ℕ) where
   first_join [] m = refl
   first_join (x ∷ l) m = by-case (fault_in s len x) (first_in s len (l ++ m)) (first_in s len l) (first_join l m)
     where
-      by-case : (b : Bool) (p q : Finding) → p ≡ or_next q (first_in s len m) → cond b (Bad x) p ≡ or_next (cond b (Bad x) q) (first_in s len m)
+      by-case : (b : Bool) (p q : Option Fault) → p ≡ or_next q (first_in s len m) → cond b (Some x) p ≡ or_next (cond b (Some x) q) (first_in s len m)
       by-case true p q e = refl
       by-case false p q e = e
 
@@ -139,7 +97,7 @@ module _ (s : Settings) (len : ℕ) where
   first_one x = refl
 
   module _ (f : ℕ → List Fault) where
-    pub each_zero : first_in s len (each f 0) ≡ Sound
+    pub each_zero : first_in s len (each f 0) ≡ None
     unfolding each first_in
     each_zero = refl
 
@@ -148,10 +106,10 @@ module _ (s : Settings) (len : ℕ) where
     step n = first_join (each f n) (f n)
 
     -- one list more, as a loop takes it
-    pub each_more : (i : ℕ) → first_in s len (each f i) ≡ Sound → first_in s len (f i) ≡ Sound → first_in s len (each f (i + 1)) ≡ Sound
+    pub each_more : (i : ℕ) → first_in s len (each f i) ≡ None → first_in s len (f i) ≡ None → first_in s len (each f (i + 1)) ≡ None
     each_more i h q = rw add-one (step i ∙ rw (h, q))
 
-    pub each_hit : (n i : ℕ) {x : Fault} → i < n → first_in s len (each f i) ≡ Sound → first_in s len (f i) ≡ Bad x → first_in s len (each f n) ≡ Bad x
+    pub each_hit : (n i : ℕ) {x : Fault} → i < n → first_in s len (each f i) ≡ None → first_in s len (f i) ≡ Some x → first_in s len (each f n) ≡ Some x
     each_hit zero i l h q = absurd (not-suc-le-zero l)
     each_hit (suc n) i l h q =
         step n
@@ -161,11 +119,11 @@ module _ (s : Settings) (len : ℕ) where
         (eq-or-lt_of_le (le_of_suc-le-suc l))
 
     -- no fault in all, and in each
-    pub each_none : (n : ℕ) → ((i : ℕ) → i < n → first_in s len (f i) ≡ Sound) → first_in s len (each f n) ≡ Sound
+    pub each_none : (n : ℕ) → ((i : ℕ) → i < n → first_in s len (f i) ≡ None) → first_in s len (each f n) ≡ None
     each_none zero h = each_zero
     each_none (suc n) h = step n ∙ rw (each_none n (λ i l. h i (le_step l)), h n (le_refl (suc n)))
 
-    pub each_all : (n : ℕ) → first_in s len (each f n) ≡ Sound → (i : ℕ) → i < n → first_in s len (f i) ≡ Sound
+    pub each_all : (n : ℕ) → first_in s len (each f n) ≡ None → (i : ℕ) → i < n → first_in s len (f i) ≡ None
     each_all zero e i l = absurd (not-suc-le-zero l)
     each_all (suc n) e i l =
         ⊎_elim
@@ -173,13 +131,13 @@ module _ (s : Settings) (len : ℕ) where
         (λ (b : i < n). each_all n (here-sound (first_in s len (each f n)) (first_in s len (f n)) (sym (step n) ∙ e)) i b)
         (eq-or-lt_of_le (le_of_suc-le-suc l))
       where
-        here-sound : (p q : Finding) → or_next p q ≡ Sound → p ≡ Sound
-        here-sound Sound q h = refl
-        here-sound (Bad x) q h = h
+        here-sound : (p q : Option Fault) → or_next p q ≡ None → p ≡ None
+        here-sound None q h = refl
+        here-sound (Some x) q h = h
 
-        next-sound : (p q : Finding) → or_next p q ≡ Sound → q ≡ Sound
-        next-sound Sound q h = h
-        next-sound (Bad x) q h = let z : ◌≡◌ {A = ℕ} 0 1 = cc in absurd (omega arith)
+        next-sound : (p q : Option Fault) → or_next p q ≡ None → q ≡ None
+        next-sound None q h = h
+        next-sound (Some x) q h = let z : ◌≡◌ {A = ℕ} 0 1 = cc in absurd (omega arith)
 
 -- ---- one condition of one entry
 
@@ -202,7 +160,7 @@ module _ (s : Settings) (len n k : ℕ) where
       (one_shared (least n P) l.1)))
       (λ h. rw h (each_none s len f n (λ i b. one_shared i (any_all P n h i b))))
 
-  module _ {x : Finding} (rule : ℕ) where
+  module _ {x : Option Fault} (rule : ℕ) where
     pub condition_0 : rule ≡ 0 → x ≡ bad_if (no_sectors (entry_at s.table k)) (NoSectors k) → x ≡ first_in s len (condition_at n rule k)
     unfolding condition_at first_in
     condition_0 h e = rw h e
@@ -235,11 +193,11 @@ module _ (s : Settings) (len n k : ℕ) where
 -- ---- the settings
 
 module _ (s : Settings) (len : ℕ) where
-  pub first_off : enabled s s.current ≡ false → first_fault s len ≡ Bad ArchOff
+  pub first_off : enabled s s.current ≡ false → first_fault s len ≡ Some ArchOff
   unfolding first_fault faults_of first_in
   first_off h = rw h
 
-  pub first_over_lem : enabled s s.current ≡ true → 16 < s.count → first_fault s len ≡ Bad CountOver
+  pub first_over_lem : enabled s s.current ≡ true → 16 < s.count → first_fault s len ≡ Some CountOver
   unfolding first_fault faults_of first_in
   first_over_lem h l = rw (h, lt-ltb 16 s.count l)
 

@@ -13,14 +13,14 @@ use Rattle.partitions.specs.Settings.{entry_at, enabled, no_sectors, runs_past, 
 use Rattle.partitions.proofs.Laws.{good_count, good_entry, good_off}
 use Rattle.why_settings.specs.declared.Fault.{Fault}
 use Rattle.why_settings.specs.declared.Fault.TheVariants.{ArchOff, CountOver, NoSectors, PastFlash, Shares, LinksUp, LinksToB, ManyUsers, ReservedUser}
-use Rattle.why_settings.specs.declared.Finding.TheVariants.{Sound, Bad}
+use Rattle.std.specs.Prelude.{None, Some}
 use Rattle.why_settings.specs.Faults.{each, condition_at, condition_for, bad_if, first_in, first_shared, first_fault, SoundIsGood, FaultIsTested}
 use Rattle.why_settings.proofs.Laws.{reserved_user_case, each_none, each_all, condition_0, condition_1, condition_2, condition_3, condition_4, condition_5, condition_6, first_off, first_over_lem, first_entries}
 
-not_sound : {A : Type 0} {x : Fault} → Bad x ≡ Sound → A
+not_sound : {A : Type 0} {x : Fault} → Some x ≡ None → A
 not_sound h = let z : ◌≡◌ {A = ℕ} 0 1 = cc in absurd (omega arith)
 
-clear : (b : Bool) (x : Fault) → bad_if b x ≡ Sound → b ≡ false
+clear : (b : Bool) (x : Fault) → bad_if b x ≡ None → b ≡ false
 clear true x h = not_sound h
 clear false x h = refl
 
@@ -65,15 +65,15 @@ module _ (s : Settings) (len n k : ℕ) where
         free = or_right o6 (reserved_user e) h;
       }
 
-  shared_none : shares_sector s.table n k ≡ false → first_shared s.table n k ≡ Sound
+  shared_none : shares_sector s.table n k ≡ false → first_shared s.table n k ≡ None
   unfolding shares_sector first_shared
   shared_none h = rw h
 
-  none_shared : first_shared s.table n k ≡ Sound → shares_sector s.table n k ≡ false
+  none_shared : first_shared s.table n k ≡ None → shares_sector s.table n k ≡ false
   unfolding shares_sector first_shared
   none_shared h = clear (any n (shares_with s.table k)) _ h
 
-  clean_sound : Clean s len n k → (rule : ℕ) → rule < 7 → first_in s len (condition_at n rule k) ≡ Sound
+  clean_sound : Clean s len n k → (rule : ℕ) → rule < 7 → first_in s len (condition_at n rule k) ≡ None
   clean_sound C zero l = sym (condition_0 s len n k 0 refl (rw C.sectors))
   clean_sound C (suc zero) l = sym (condition_1 s len n k 1 refl (rw C.within))
   clean_sound C (suc (suc zero)) l = sym (condition_2 s len n k 2 refl (sym (shared_none C.alone)))
@@ -86,7 +86,7 @@ module _ (s : Settings) (len n k : ℕ) where
       (condition_6 s len n k m (λ h. absurd (omega arith)) (λ h. absurd (omega arith)) (λ h. absurd (omega arith)) (λ h. absurd (omega arith))
       (λ h. absurd (omega arith)) (λ h. absurd (omega arith)) (rw C.free))
 
-  sound_clean : ((rule : ℕ) → rule < 7 → first_in s len (condition_at n rule k) ≡ Sound) → Clean s len n k
+  sound_clean : ((rule : ℕ) → rule < 7 → first_in s len (condition_at n rule k) ≡ None) → Clean s len n k
   sound_clean h =
       let e = entry_at s.table k in
       record {
@@ -104,7 +104,7 @@ module _ (s : Settings) (len n k : ℕ) where
 -- ---- all entries
 
 module _ (s : Settings) (len n : ℕ) where
-  grid_sound : any n (bad_entry s.table n len) ≡ false → first_in s len (each (condition_for n) 7) ≡ Sound
+  grid_sound : any n (bad_entry s.table n len) ≡ false → first_in s len (each (condition_for n) 7) ≡ None
   unfolding condition_for
   grid_sound h =
       each_none s len (condition_for n) 7
@@ -112,7 +112,7 @@ module _ (s : Settings) (len n : ℕ) where
       each_none s len (condition_at n rule) n
       (λ k b. clean_sound s len n k (good_clean s len n k (any_all (bad_entry s.table n len) n h k b)) rule l))
 
-  sound_grid : first_in s len (each (condition_for n) 7) ≡ Sound → any n (bad_entry s.table n len) ≡ false
+  sound_grid : first_in s len (each (condition_for n) 7) ≡ None → any n (bad_entry s.table n len) ≡ false
   unfolding condition_for
   sound_grid h =
       any_none (bad_entry s.table n len) n
@@ -131,12 +131,12 @@ module _ (s : Settings) (len : ℕ) where
   good_enabled : good_settings s len ≡ true → enabled s s.current ≡ true
   good_enabled h = split (enabled s s.current) (λ e. e) (λ e. clash (good_settings s len) h (good_off s len e))
 
-  good_sound : good_settings s len ≡ true → first_fault s len ≡ Sound
+  good_sound : good_settings s len ≡ true → first_fault s len ≡ None
   good_sound h =
       first_entries s len (good_enabled h) (good_count s len h)
       ∙ grid_sound s len s.count (any_none (bad_entry s.table s.count len) s.count (good_entry s len h))
 
-  sound_good : first_fault s len ≡ Sound → good_settings s len ≡ true
+  sound_good : first_fault s len ≡ None → good_settings s len ≡ true
   sound_good h =
       split (enabled s s.current)
       (λ e.

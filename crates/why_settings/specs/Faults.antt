@@ -1,14 +1,12 @@
 -- Row 2 by its conditions: what each says of settings, which of them is the first, and the numbers that it compares. Numbers are natural, so
 -- nothing wraps. Assumes nothing.
-use Rattle.std.specs.Prelude.{ℕ, zero, suc, ◌+◌, ◌*◌, ◌<◌, ◌≡◌, Bool, true, cond, not, ◌&&◌, ◌↔◌, List, [], ◌∷◌, ◌++◌, ltb, leb, eqb, get_or}
+use Rattle.std.specs.Prelude.{ℕ, zero, suc, ◌+◌, ◌*◌, ◌<◌, ◌≡◌, Bool, true, cond, not, ◌&&◌, ◌↔◌, List, [], ◌∷◌, ◌++◌, ltb, leb, eqb, get_or, Option, None, Some}
 use Rattle.laws.specs.Sets.{one, any, least}
 use Rattle.partitions.specs.declared.Entry.{Entry}
 use Rattle.partitions.specs.declared.Settings.{Settings}
 use Rattle.partitions.specs.Settings.{family_rp2040, family_arm_ns, is_unowned, link_target, entry_at, enabled, count_over, no_sectors, runs_past, shares_with, links_up, links_to_b, many_users, reserved_at, reserved_user, good_settings, blank_entry}
 use Rattle.why_settings.specs.declared.Fault.{Fault}
 use Rattle.why_settings.specs.declared.Fault.TheVariants.{ArchOff, CountOver, NoSectors, PastFlash, Shares, LinksUp, LinksToB, ManyUsers, ReservedUser}
-use Rattle.why_settings.specs.declared.Finding.{Finding}
-use Rattle.why_settings.specs.declared.Finding.TheVariants.{Sound, Bad}
 use Rattle.why_settings.specs.declared.Comparison.{Comparison}
 
 -- ---- what each fault says
@@ -82,25 +80,25 @@ faults_of s = ArchOff ∷ CountOver ∷ each (condition_for (used_of s)) 7
 
 -- ---- the first fault
 
-abbrev pub bad_if : Bool → Fault → Finding
-bad_if b x = cond b (Bad x) Sound
+abbrev pub bad_if : Bool → Fault → Option Fault
+bad_if b x = cond b (Some x) None
 
 -- the first of a list that is in the settings
-unfoldable pub first_in : Settings → ℕ → List Fault → Finding
-first_in s len [] = Sound
-first_in s len (x ∷ l) = cond (fault_in s len x) (Bad x) (first_in s len l)
+unfoldable pub first_in : Settings → ℕ → List Fault → Option Fault
+first_in s len [] = None
+first_in s len (x ∷ l) = cond (fault_in s len x) (Some x) (first_in s len l)
 
 -- the first other of n entries that entry k shares a sector with
-unfoldable pub first_shared : List Entry → ℕ → ℕ → Finding
+unfoldable pub first_shared : List Entry → ℕ → ℕ → Option Fault
 first_shared table n k = bad_if (any n (shares_with table k)) (Shares k (least n (shares_with table k)))
 
-unfoldable pub first_fault : Settings → ℕ → Finding
+unfoldable pub first_fault : Settings → ℕ → Option Fault
 first_fault s len = first_in s len (faults_of s)
 
 -- the number of a finding, and 0 where there is no fault
-abbrev pub finding_number : Finding → ℕ
-finding_number Sound = 0
-finding_number (Bad x) = fault_number x
+abbrev pub finding_number : Option Fault → ℕ
+finding_number None = 0
+finding_number (Some x) = fault_number x
 
 -- ---- the numbers compared
 
@@ -167,7 +165,7 @@ InTable (ReservedUser k) = k < 16
 
 -- no fault is found exactly in good settings
 abbrev pub SoundIsGood : Type 0
-SoundIsGood = (s : Settings) (len : ℕ) → (first_fault s len ≡ Sound) ↔ (good_settings s len ≡ true)
+SoundIsGood = (s : Settings) (len : ℕ) → (first_fault s len ≡ None) ↔ (good_settings s len ≡ true)
 
 -- each fault is a test of the numbers that it names
 abbrev pub FaultIsTested : Type 0

@@ -5,9 +5,8 @@ pub mod first;
 pub mod sharing;
 
 ghost use Rattle.std.specs.Prelude.{◌≡◌};
-ghost use Rattle.laws.specs.Sets.{one};
 ghost use Rattle.partitions.specs.Settings.{links_to_b};
-ghost use Rattle.why_settings.specs.Faults.{fault_number, slot_at, first_reserved, end_of, told, tested_of};
+ghost use Rattle.why_settings.specs.Faults.{fault_number, slot_at, first_reserved, end_of, tested_of};
 
 use memory::flash::Flash;
 use partitions::{Entry, Family, Settings};
@@ -24,12 +23,6 @@ pub enum Fault {
     LinksToB(u8),
     ManyUsers(u8),
     ReservedUser(u8),
-}
-
-#[derive(Clone, Copy)]
-pub enum Finding {
-    Sound,
-    Bad(Fault),
 }
 
 // The number that a fault tests, and what it is tested against.
@@ -58,22 +51,16 @@ impl Fault {
 }
 
 // The first user family that is reserved, 0 where none is.
+#[tactic(auto, using(crate::proofs::Laws::reserved_hit, crate::proofs::Laws::reserved_none))]
 pub fn first_reserved(e: Entry) -> u32
     ensures { result ≡ first_reserved e }
 {
-    let n = e.user_count;
-    let users = e.users;
-    if (0 < n) & partitions::reserved(users[0]) {
-        return users[0];
-    }
-    if (1 < n) & partitions::reserved(users[1]) {
-        return users[1];
-    }
-    if (2 < n) & partitions::reserved(users[2]) {
-        return users[2];
-    }
-    if (3 < n) & partitions::reserved(users[3]) {
-        return users[3];
+    let n = e.user_count as usize;
+    for k in 0..4 {
+        let user = e.users[k];
+        if (k < n) & partitions::reserved(user) {
+            return user;
+        }
     }
     0
 }
@@ -109,19 +96,6 @@ fn slot(settings: Settings, k: u8) -> Entry
     }
 }
 
-// The number of a bool.
-fn bit(yes: bool) -> u64
-    ensures { result ≡ one yes }
-{
-    if yes { 1 } else { 0 }
-}
-
-fn tell(got: u64, against: u64) -> Comparison
-    ensures { result ≡ told got against }
-{
-    Comparison { got, against }
-}
-
 // Where an entry ends, in bytes.
 fn end_of(e: Entry) -> u64
     ensures { result ≡ end_of e }
@@ -134,18 +108,21 @@ pub fn numbers(settings: Settings, flash_len: usize, fault: Fault) -> Comparison
     ensures { result ≡ tested_of settings flash_len fault }
 {
     let current = settings.current;
-    match fault {
-        Fault::ArchOff => tell(bit(partitions::is_enabled(settings, current)), 0),
-        Fault::CountOver => tell(settings.count as u64, 16),
-        Fault::NoSectors(k) => tell(slot(settings, k).sectors as u64, 0),
-        Fault::PastFlash(k) => tell(end_of(slot(settings, k)), flash_len as u64),
-        Fault::Shares(k, j) => tell(j as u64, k as u64),
-        Fault::LinksUp(k) => tell(partitions::target(slot(settings, k)) as u64, k as u64),
-        Fault::LinksToB(k) => tell(partitions::target(slot(settings, k)) as u64, k as u64),
-        Fault::ManyUsers(k) => tell(slot(settings, k).user_count as u64, 4),
-        Fault::ReservedUser(k) => tell(
+    let (got, against) = match fault {
+        Fault::ArchOff => (u64::from(partitions::is_enabled(settings, current)), 0),
+        Fault::CountOver => (settings.count as u64, 16),
+        Fault::NoSectors(k) => (slot(settings, k).sectors as u64, 0),
+        Fault::PastFlash(k) => (end_of(slot(settings, k)), flash_len as u64),
+        Fault::Shares(k, j) => (j as u64, k as u64),
+        Fault::LinksUp(k) | Fault::LinksToB(k) => (
+            partitions::target(slot(settings, k)) as u64,
+            k as u64,
+        ),
+        Fault::ManyUsers(k) => (slot(settings, k).user_count as u64, 4),
+        Fault::ReservedUser(k) => (
             first_reserved(slot(settings, k)) as u64,
             Family::RP2040 as u64,
         ),
-    }
+    };
+    Comparison { got, against }
 }

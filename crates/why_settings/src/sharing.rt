@@ -7,6 +7,7 @@ use partitions::Settings;
 
 // The first other entry that has a sector in common with entry k, and the count where none has. Past the table's
 // end there is no sector.
+#[tactic(auto, using(laws::proofs::Laws::any_zero, laws::proofs::Laws::any_more, laws::proofs::Laws::least_is, laws::proofs::Laws::least_none, crate::proofs::sharing::Laws::other_shares, crate::proofs::sharing::Laws::least_own_past, crate::proofs::sharing::Laws::least_past), unfolding(partitions::specs::Settings::overlap_at))]
 pub fn first_other(settings: Settings, k: usize) -> usize
     ensures { result ≡ least settings.count (shares_with settings.table k) }
 {
@@ -16,8 +17,7 @@ pub fn first_other(settings: Settings, k: usize) -> usize
     }
     let first = settings.table[k].first;
     let sectors = settings.table[k].sectors;
-    let mut j: usize = 0;
-    while j < n {
+    for j in 0..n {
         if Settings::ENTRIES <= j {
             return n;
         }
@@ -25,7 +25,6 @@ pub fn first_other(settings: Settings, k: usize) -> usize
         if (j != k) & partitions::sectors::sectors_overlap(first, sectors, e.first, e.sectors) {
             return j;
         }
-        j += 1;
     }
     n
 }

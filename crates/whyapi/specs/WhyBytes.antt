@@ -1,5 +1,5 @@
 -- What a call for a reason answers and writes. Assumes nothing.
-use Rattle.std.specs.Prelude.{ℕ, ◌/◌, ◌%◌, false, not, cond, ◌&&◌, List, ◌∷◌, ltb, eqb, length}
+use Rattle.std.specs.Prelude.{ℕ, ◌/◌, ◌%◌, false, not, cond, ◌&&◌, List, ◌∷◌, ltb, eqb, length, Result, Ok, Err}
 use Rattle.laws.specs.Over.{over}
 use Rattle.uf2_block.specs.Write.{put_at}
 use Rattle.transfer.specs.Transfer.{number_of}
@@ -13,14 +13,15 @@ use Rattle.why_causes.specs.declared.Cause.TheVariants.{BadBuffers, BadSettings,
 use Rattle.why.specs.Placed.{placed_number}
 use Rattle.why.specs.declared.Why.{Why}
 use Rattle.why.specs.declared.WhyPlace.{WhyPlace}
-use Rattle.why.specs.declared.PlaceOrigin.{PlaceOrigin}
-use Rattle.why.specs.declared.PlaceOrigin.TheVariants.{Refused, Whole, Entry}
+use Rattle.why_place.specs.declared.Origin.{Origin}
+use Rattle.why_place.specs.declared.Origin.TheVariants.{Whole, Entry}
 use Rattle.why_place.specs.declared.Rule.{Rule}
 use Rattle.why_place.specs.declared.Rule.TheVariants.{Absolute, NoTable}
 use Rattle.whyapi.specs.declared.told.ReasonFields.{ReasonFields}
 -- what is told of settings' bytes
 pub use Rattle.whyapi.specs.Told.{told_with, bare}
 unfoldable pub use Rattle.whyapi.specs.Told.{link_byte, link_over, link_told, settings_told}
+use Rattle.why_causes.specs.declared.Reason.{Reason}
 
 -- ---- what is told of a reason
 
@@ -126,10 +127,10 @@ rule_number Absolute = 1
 rule_number NoTable = 2
 
 -- "it names the pass and the entry, or the whole-flash rule"
-abbrev pub place_told : PlaceOrigin → List ℕ → ReasonFields
-place_told (Refused x) m = told_of (record { reason = x; discarded = false; entries = m })
-place_told (Whole r) m = told_with (rule_number r) 0 0 0 0 m
-place_told (Entry p k) m = told_with 3 p 0 k 0 m
+abbrev pub place_told : Result Origin Reason → List ℕ → ReasonFields
+place_told (Err x) m = told_of (record { reason = x; discarded = false; entries = m })
+place_told (Ok (Whole r)) m = told_with (rule_number r) 0 0 0 0 m
+place_told (Ok (Entry p k)) m = told_with 3 p 0 k 0 m
 
 -- bytes that are no settings, where that is the answer
 unfoldable pub place_shown : ℕ → List ℕ → ReasonFields → ReasonFields

@@ -9,6 +9,7 @@ ghost use Rattle.arrival.specs.Lending.{lent_at};
 ghost use Rattle.whyapi.specs.WhyCall.{call_return, why_call_of, place_call_of};
 
 // Why an arrival is answered as it is: what `uf2_look` returns, and the reason. Nothing else is written.
+#[tactic(auto, using(crate::proofs::Laws::why_call_lem))]
 pub fn uf2_why(
     settings: &[u8],
     transfer: &[u8],
@@ -29,6 +30,7 @@ pub fn uf2_why(
 }
 
 // Why a family has a place in a flash of so many bytes, or none: 0, 1, 2 or 8, and the reason.
+#[tactic(auto, using(crate::proofs::Laws::place_call_lem))]
 pub fn uf2_why_place(settings: &[u8], flash_len: usize, family: u32, out: &mut [u8]) -> u32
     ensures { call_return result out.new ≡ place_call_of settings.now flash_len family out.old }
 {

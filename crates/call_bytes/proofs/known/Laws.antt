@@ -6,6 +6,7 @@ use mathlib.Core.Bool.{Bool, true, false, ◌&&◌, ◌||◌}
 use mathlib.Core.List.{List}
 use lib.Dec.{leb, eqb}
 use borrow.Author.Tests.{eqb-true, eqb-false, ne_eqb}
+use Rattle.std.specs.Prelude.{Option}
 use Rattle.laws.specs.Sets.{any}
 use Rattle.laws.proofs.Laws.{any_zero}
 use Rattle.laws.proofs.Tests.{split}
@@ -58,12 +59,12 @@ module _ (b : List ℕ) (z : count_from b ≡ 0) where
       place_rp2040 (settings_from b) len f r ∙ rw r refl)
       (λ e. place_whole (settings_from b) len f d (eqb-false f family_rp2040 e) none)
 
-  pub place_absolute_without : (len : ℕ) {f : ℕ} {y : Bool} {p : Place} → f ≡ family_absolute → y ≡ is_on (byte_at b 4) → p ≡ whole_if y len → p ≡ place_of (settings_from b) len f
+  pub place_absolute_without : (len : ℕ) {f : ℕ} {y : Bool} {p : Option Place} → f ≡ family_absolute → y ≡ is_on (byte_at b 4) → p ≡ whole_if y len → p ≡ place_of (settings_from b) len f
   unfolding settings_from settings_of
   place_absolute_without len {f} e hy hp = hp ∙ rw hy (sym (place_absolute (settings_from b) len f e))
 
-  pub place_other_without : (len : ℕ) {f : ℕ} {arm riscv y : Bool} {p : Place} → f ≢ family_absolute → arm ≡ is_on (byte_at b 0) → riscv ≡ is_on (byte_at b 1) → y ≡ gets_whole arm riscv f → p ≡ whole_if y len → p ≡ place_of (settings_from b) len f
+  pub place_other_without : (len : ℕ) {f : ℕ} {arm riscv y : Bool} {p : Option Place} → f ≢ family_absolute → arm ≡ is_on (byte_at b 0) → riscv ≡ is_on (byte_at b 1) → y ≡ gets_whole arm riscv f → p ≡ whole_if y len → p ≡ place_of (settings_from b) len f
   place_other_without len d ha hr hy hp = hp ∙ rw (hy, ha, hr) (sym (place_without len d))
 
-  pub rooms_without : (len f : ℕ) {p : Place} {y : Bool} → p ≡ place_of (settings_from b) len f → y ≡ (leb family_data f && leb f family_arm_ns) → record { flash = p; ram = y } ≡ rooms_of (settings_from b) len f
+  pub rooms_without : (len f : ℕ) {p : Option Place} {y : Bool} → p ≡ place_of (settings_from b) len f → y ≡ (leb family_data f && leb f family_arm_ns) → record { flash = p; ram = y } ≡ rooms_of (settings_from b) len f
   rooms_without len f hp hy = rw (hp, hy ∙ sym (ram_without f)) refl

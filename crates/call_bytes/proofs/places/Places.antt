@@ -5,6 +5,7 @@ use mathlib.Core.Bool.{true}
 use mathlib.Core.List.{List, [], ◌++◌}
 use native.Mathlib.Omega.{arith}
 use lib.ListN.{length}
+use Rattle.std.specs.Prelude.{Option, Some, None}
 use Rattle.laws.proofs.Tests.{split}
 use Rattle.laws.specs.Bytes.{low_first}
 use Rattle.laws.specs.Over.{over}
@@ -15,9 +16,7 @@ use Rattle.memory.proofs.flash.Laws.{length_right}
 use Rattle.partitions.specs.declared.Settings.{Settings}
 use Rattle.partitions.specs.Settings.{good_settings}
 use Rattle.placement.specs.declared.Place.{Place}
-use Rattle.placement.specs.declared.Place.TheVariants.{Nowhere, At}
-use Rattle.placement.specs.declared.PlaceAnswer.{PlaceAnswer}
-use Rattle.placement.specs.Place.{found_at, place_of, ask_of}
+use Rattle.placement.specs.Place.{found_at, place_of, ask_of, PlaceAnswer}
 use Rattle.placement.proofs.Laws.{ask_length, ask_settings, ask_place}
 use Rattle.placement.proofs.Theorems.{place_inside}
 use Rattle.uf2_block.specs.Write.{le32, put_at}
@@ -27,10 +26,10 @@ use Rattle.call_bytes.specs.PlacesCalls.{Low}
 -- ---- it fits
 
 module _ (s : Settings) (len f : ℕ) where
-  found_low : flash_length len ≡ true → good_settings s len ≡ true → (p : Place) → place_of s len f ≡ p → Low (found_at p)
-  found_low right good Nowhere e = tt
-  found_low right good (At a n) e =
-      let inside = (place_inside s len f right good a n e).2 in
+  found_low : flash_length len ≡ true → good_settings s len ≡ true → (p : Option Place) → place_of s len f ≡ p → Low (found_at p)
+  found_low right good None e = tt
+  found_low right good (Some p) e =
+      let inside = (place_inside s len f right good p.start p.len e).2 in
       let most = (length_right len right).most in
       (omega arith, omega arith)
 

@@ -1,14 +1,13 @@
 -- The call by what its parts ensure. Assumes nothing.
 use Prim.Native.Nat.{ℕ}
-use mathlib.Core.Path.{◌≡◌, ap, sym, ◌∙◌}
+use mathlib.Core.Path.{◌≡◌, sym, ◌∙◌}
 use mathlib.Core.Logic.{◌≢◌}
-use mathlib.Core.Bool.{Bool, true, false}
+use mathlib.Core.Bool.{true, false}
 use mathlib.Core.List.{List}
 use lib.Dec.{eqb}
 use lib.ListN.{length}
 use borrow.Author.Tests.{eq-eqb, ne_eqb}
-use Rattle.file_check.specs.declared.Checked.{Checked}
-use Rattle.file_check.specs.Check.{checked_number}
+use Rattle.file_check.specs.Check.{Checked, checked_number}
 use Rattle.checkapi.specs.CheckBytes.{piece_told, other_told, numbers_over, call_return, check_call}
 
 module _ (x : Checked) (l : List ℕ) where

@@ -2,16 +2,16 @@
 use Prim.Native.Nat.{ℕ, zero, suc, ◌+◌, ◌-◌, ◌<◌, ◌≤◌}
 use mathlib.Core.Path.{◌≡◌, refl, sym, ap, ◌∙◌}
 use mathlib.Core.Logic.{◌≢◌}
-use mathlib.Core.Bool.{Bool, true, false, cond, ◌&&◌}
+use mathlib.Core.Bool.{Bool, true, false, ◌&&◌}
 use mathlib.Core.List.{List}
 use native.Mathlib.Omega.{arith}
 use lib.Dec.{eqb}
 use lib.ListN.{length, get_or}
 use borrow.Author.Tests.{eqb-true, eqb-false}
-use Rattle.laws.proofs.Tests.{split, clash}
+use Rattle.laws.proofs.Tests.{split}
 use Rattle.memory.specs.Many.{many}
 use Rattle.memory.proofs.fill.Laws.{length_many, get_d_many}
-use Rattle.memory.specs.Flash.{payload_of, spans, room_at, store_at}
+use Rattle.memory.specs.Flash.{payload_of, spans, room_at}
 use Rattle.memory.proofs.flash.Laws.{room_yes, length_store, get_d_store}
 use Rattle.uf2_block.specs.declared.Region.{Region}
 use Rattle.file_check.specs.Check.{piece_at, pieces_in, field_in}

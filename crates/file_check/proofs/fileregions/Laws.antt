@@ -1,22 +1,22 @@
 -- Regions that are the same, and a region with which nothing is wrong. Assumes nothing.
-use Prim.Native.Nat.{ℕ, ◌/◌, ◌<◌}
+use Prim.Native.Nat.{ℕ, ◌/◌}
+use Rattle.std.specs.Prelude.{Result, Ok, Err, ⊤}
 use mathlib.Core.Path.{◌≡◌, refl, sym, ap, ◌∙◌}
 use mathlib.Core.Bool.{Bool, true, false, cond, not, ◌&&◌}
 use mathlib.Core.List.{List}
 use lib.Dec.{eqb}
-use borrow.Author.Tests.{eqb-true, not-true, not-false}
+use borrow.Author.Tests.{eqb-true, not-false}
 use Rattle.laws.specs.Sets.{any}
-use Rattle.laws.proofs.Tests.{split, clash, eqb_same, and_left, and_right, both}
-use Rattle.laws.proofs.Laws.{any_all}
+use Rattle.laws.proofs.Tests.{clash, eqb_same, and_left, and_right}
 use Rattle.uf2_block.specs.Block.{has_flag}
 use Rattle.uf2_block.specs.Region.{region_of}
 use Rattle.uf2_block.specs.declared.Region.{Region}
 use Rattle.md5_digest.specs.Md5.{md5_of}
 use Rattle.uf2_block.specs.Regions.{same_digest}
-use Rattle.file_check.specs.Check.{piece_at, pieces_in}
+use Rattle.file_check.specs.Check.{pieces_in}
 use Rattle.file_check.specs.Regions.{inside_of, same_region, strays_from, is_stray, is_bare, final_of, fault_in, is_right}
-use Rattle.file_check.specs.declared.fileregions.RegionsChecked.{RegionsChecked}
-use Rattle.file_check.specs.declared.fileregions.RegionsChecked.TheVariants.{As, OtherRegion, BareSector, OtherDigest, Right}
+use Rattle.file_check.specs.declared.fileregions.RegionFault.{RegionFault}
+use Rattle.file_check.specs.declared.fileregions.RegionFault.TheVariants.{OtherRegion, BareSector, OtherDigest}
 
 pub same_true : (x g : Region) → same_region x g ≡ true → x ≡ g
 unfolding same_region
@@ -53,15 +53,12 @@ carries g a y z =
     let t = not-false (p && q) e in
     (and_left p q t, same_true (region_of a) g (and_right p q t))
 
-pub right_is : (x : RegionsChecked) → is_right x ≡ true → x ≡ Right
-right_is Right e = refl
-right_is (As x) e = clash false e refl
-right_is (OtherRegion i k) e = clash false e refl
-right_is (BareSector i q) e = clash false e refl
-right_is (OtherDigest i) e = clash false e refl
+pub right_is : (x : Result ⊤ RegionFault) → is_right x ≡ true → x ≡ Ok tt
+right_is (Ok u) e = refl
+right_is (Err x) e = clash false e refl
 
 -- a condition that a right region has passed
-right_by : (b : Bool) (x y : RegionsChecked) → is_right x ≡ false → is_right (cond b x y) ≡ true → (b ≡ false) × (is_right y ≡ true)
+right_by : (b : Bool) (x y : Result ⊤ RegionFault) → is_right x ≡ false → is_right (cond b x y) ≡ true → (b ≡ false) × (is_right y ≡ true)
 right_by true x y z e = clash (is_right x) e z
 right_by false x y z e = (refl, e)
 
@@ -74,9 +71,9 @@ pub record Fine (f : List ℕ) (g : Region) : Type 0 where
 pub fine_of : (f : List ℕ) (i : ℕ) (g : Region) → is_right (fault_in f i g) ≡ true → Fine f g
 unfolding fault_in
 fine_of f i g e =
-    let p = right_by _ (OtherRegion i _) _ refl e in
-    let q = right_by _ (BareSector i _) _ refl p.1 in
-    let r = right_by _ (OtherDigest i) Right refl q.1 in
+    let p = right_by _ (Err (OtherRegion i _)) _ refl e in
+    let q = right_by _ (Err (BareSector i _)) _ refl p.1 in
+    let r = right_by _ (Err (OtherDigest i)) (Ok tt) refl q.1 in
     record { carried = p.0; covered = q.0; digest = not-false _ r.0 }
 
 pub right_of : (f : List ℕ) (i : ℕ) (g : Region) → Fine f g → is_right (fault_in f i g) ≡ true

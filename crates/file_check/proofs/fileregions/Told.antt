@@ -1,5 +1,6 @@
 -- The answers about regions are true. Assumes nothing.
-use Prim.Native.Nat.{ℕ, ◌+◌, ◌-◌, ◌/◌, ◌<◌, ◌≤◌}
+use Prim.Native.Nat.{ℕ, ◌+◌, ◌/◌, ◌<◌}
+use Rattle.std.specs.Prelude.{Result, Ok, Err, ⊤}
 use mathlib.Core.Path.{◌≡◌, refl, sym, ap, subst, ◌∙◌}
 use mathlib.Core.Logic.{◌≢◌}
 use mathlib.Core.Bool.{Bool, true, false, cond, not, ◌&&◌}
@@ -7,9 +8,9 @@ use mathlib.Core.List.{List}
 use lib.Dec.{eqb, ltb, leb}
 use borrow.Author.Tests.{eqb-true, eqb-false, eq-eqb, leb-true, ltb-true, le-leb, lt-ltb, not-true, not-false}
 use Rattle.laws.specs.Sets.{any, least}
-use Rattle.laws.proofs.Tests.{split, clash, is_false, and_left, and_right, both}
+use Rattle.laws.proofs.Tests.{split, clash, and_left, and_right, both}
 use Rattle.laws.proofs.Laws.{any_all, any_found, least_below}
-use Rattle.uf2_block.specs.Block.{field_at, has_flag}
+use Rattle.uf2_block.specs.Block.{has_flag}
 use Rattle.uf2_block.specs.Region.{region_of}
 use Rattle.uf2_block.specs.declared.Region.{Region}
 use Rattle.md5_digest.specs.Md5.{md5_of}
@@ -19,11 +20,12 @@ use Rattle.uf2_block.proofs.regions.Laws.{named_by, digest_true, digest_yes}
 use Rattle.partitions.specs.declared.Settings.{Settings}
 use Rattle.uf2_checks.specs.declared.Lengths.{Lengths}
 use Rattle.arrival.specs.Standing.{digest_in}
-use Rattle.file_check.specs.declared.Checked.{Checked}
-use Rattle.file_check.specs.declared.Checked.TheVariants.{BadBuffers}
-use Rattle.file_check.specs.Check.{piece_at, pieces_in, field_in, is_page, is_guarding, check_of}
+use Rattle.file_check.specs.declared.FileFault.TheVariants.{BadBuffers}
+use Rattle.file_check.specs.Check.{piece_at, pieces_in, field_in, is_guarding, check_of}
 use Rattle.file_check.specs.declared.fileregions.RegionsChecked.{RegionsChecked}
-use Rattle.file_check.specs.declared.fileregions.RegionsChecked.TheVariants.{As, OtherRegion, BareSector, OtherDigest, Right}
+use Rattle.file_check.specs.declared.fileregions.RegionsChecked.TheVariants.{As, Named}
+use Rattle.file_check.specs.declared.fileregions.RegionFault.{RegionFault}
+use Rattle.file_check.specs.declared.fileregions.RegionFault.TheVariants.{OtherRegion, BareSector, OtherDigest}
 use Rattle.file_check.specs.Regions.{inside_of, same_region, strays_from, is_stray, is_bare, sector_in, final_of, fault_in, region_fault, is_right, is_wrong, regions_of, names_regions, after_check, check_regions_of}
 use Rattle.file_check.specs.Told.{InRegion, Carries, sector_of, RightRegion, Told, RegionsAnswersAreTrue}
 use Rattle.file_check.proofs.fileregions.Laws.{same_true, same_yes, Fine, fine_of}
@@ -130,36 +132,40 @@ module _ (s : Settings) (n : Lengths) (a b c d : ℕ) (f : List ℕ) where
   by true x y p q = p refl
   by false x y p q = q refl
 
+  by-named : (v : Bool) (x y : Result ⊤ RegionFault) → (v ≡ true → T (Named x)) → (v ≡ false → T (Named y)) → T (Named (cond v x y))
+  by-named true x y p q = p refl
+  by-named false x y p q = q refl
+
   -- the region of piece i, with which something is wrong
-  fault_told : (i : ℕ) → is_guarding s n f i ≡ true → is_right (region_fault f i) ≡ false → T (region_fault f i)
+  fault_told : (i : ℕ) → is_guarding s n f i ≡ true → is_right (region_fault f i) ≡ false → T (Named (region_fault f i))
   unfolding fault_in
   fault_told i y w =
       let h = g f i in
       split (any (pieces_in f) (is_stray f h))
       (λ t.
-      let e : region_fault f i ≡ OtherRegion i (least (pieces_in f) (is_stray f h)) = rw t in
+      let e : region_fault f i ≡ Err (OtherRegion i (least (pieces_in f) (is_stray f h))) = rw t in
       let r = least_below (is_stray f h) (pieces_in f) t in
       let v = stray_true f i (least (pieces_in f) (is_stray f h)) r.1 in
-      subst T (sym e) (y, r.0, v.0, v.1))
+      subst (λ (x : Result ⊤ RegionFault). T (Named x)) (sym e) (y, r.0, v.0, v.1))
       (λ z1.
       split (any (h.len / 4096) (is_bare f h))
       (λ t.
-      let e : region_fault f i ≡ BareSector i (least (h.len / 4096) (is_bare f h)) = rw (z1, t) in
+      let e : region_fault f i ≡ Err (BareSector i (least (h.len / 4096) (is_bare f h))) = rw (z1, t) in
       let r = least_below (is_bare f h) (h.len / 4096) t in
-      subst T (sym e) (y, subst (λ (x : ℕ). least (h.len / 4096) (is_bare f h) < x / 4096) (length_is f i) r.0, not_bare f i (least (h.len / 4096) (is_bare f h)) r.1))
+      subst (λ (x : Result ⊤ RegionFault). T (Named x)) (sym e) (y, subst (λ (x : ℕ). least (h.len / 4096) (is_bare f h) < x / 4096) (length_is f i) r.0, not_bare f i (least (h.len / 4096) (is_bare f h)) r.1))
       (λ z2.
       split (same_digest (md5_of (final_of f h)) h)
       (λ t.
-      let e : region_fault f i ≡ Right = rw (z1, z2, t) in
-      clash (is_right Right) refl (sym (ap is_right e) ∙ w))
+      let e : region_fault f i ≡ Ok tt = rw (z1, z2, t) in
+      clash (is_right (Ok tt)) refl (sym (ap is_right e) ∙ w))
       (λ z3.
-      let e : region_fault f i ≡ OtherDigest i = rw (z1, z2, z3) in
-      subst T (sym e) (y, not_digest f i z3))))
+      let e : region_fault f i ≡ Err (OtherDigest i) = rw (z1, z2, z3) in
+      subst (λ (x : Result ⊤ RegionFault). T (Named x)) (sym e) (y, not_digest f i z3))))
 
-  regions_told : names_regions (check_of s n a b c f) ≡ true → T (regions_of s n f)
+  regions_told : names_regions (check_of s n a b c f) ≡ true → T (Named (regions_of s n f))
   unfolding regions_of
   regions_told given =
-      by (any (pieces_in f) (is_wrong s n f)) _ Right
+      by-named (any (pieces_in f) (is_wrong s n f)) _ (Ok tt)
       (λ y.
       let i = least (pieces_in f) (is_wrong s n f) in
       let r = least_below (is_wrong s n f) (pieces_in f) y in
@@ -182,7 +188,7 @@ module _ (s : Settings) (n : Lengths) (a b c d : ℕ) (f : List ℕ) where
       (λ y. (λ z. refl, λ t. clash (names_regions x) t (not-true _ y)))
       (λ y.
       let t = not-false (names_regions x) y in
-      by (not (eqb d n.flash)) (As BadBuffers) _
+      by (not (eqb d n.flash)) (As (Err BadBuffers)) _
       (λ u. (λ z. clash (names_regions x) t z, λ v. (refl, eqb-false _ _ (not-true _ u))))
       (λ u. regions_told t))
 

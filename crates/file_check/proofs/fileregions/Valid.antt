@@ -1,15 +1,16 @@
 -- A file whose regions are right is what L9 asks of a file. Assumes nothing.
 use Prim.Native.Nat.{ℕ, ◌+◌, ◌-◌, ◌*◌, ◌/◌, ◌%◌, ◌<◌, ◌≤◌}
+use Rattle.std.specs.Prelude.{Ok, Err}
 use mathlib.Core.Path.{◌≡◌, refl, sym, ap, subst, ◌∙◌}
-use mathlib.Core.Logic.{◌≢◌}
-use mathlib.Core.Bool.{Bool, true, false, not, ◌&&◌}
+use mathlib.Core.Bool.{Bool, true, false, ◌&&◌}
 use mathlib.Core.List.{List}
 use native.Mathlib.Omega.{arith}
 use lib.Dec.{eqb, ltb, leb}
 use lib.ListN.{length, get_or}
 use lib.Seq.{ext_get_or}
-use borrow.Author.Tests.{eqb-true, eqb-false, eq-eqb, leb-true, ltb-true, lt-ltb, le-leb, not-true}
-use Rattle.laws.specs.Sets.{Set, any, least}
+use borrow.Author.Tests.{eq-eqb, leb-true, ltb-true, lt-ltb, le-leb}
+use Rattle.std.specs.Prelude.{Option}
+use Rattle.laws.specs.Sets.{any}
 use Rattle.laws.proofs.Tests.{split, clash, is_false, and_left, and_right, both}
 use Rattle.laws.proofs.Laws.{any_hit, any_all, any_found}
 use Rattle.memory.specs.Flash.{payload_of, spans}
@@ -19,11 +20,10 @@ use Rattle.uf2_block.specs.Region.{region_of}
 use Rattle.uf2_block.specs.declared.Region.{Region}
 use Rattle.md5_digest.specs.Md5.{md5_of}
 use Rattle.uf2_block.specs.Regions.{good_region}
-use Rattle.uf2_block.proofs.regions.Laws.{Counting, good_true}
+use Rattle.uf2_block.proofs.regions.Laws.{good_true}
 use Rattle.partitions.specs.declared.Settings.{Settings}
 use Rattle.placement.specs.Place.{place_of}
 use Rattle.placement.specs.declared.Place.{Place}
-use Rattle.placement.specs.declared.Place.TheVariants.{At}
 use Rattle.transfer.specs.Transfer.{same_kind}
 use Rattle.transfer.specs.declared.Kind.{Kind}
 use Rattle.transfer.specs.declared.Kind.TheVariants.{Flash}
@@ -36,39 +36,37 @@ use Rattle.arrival.specs.Standing.{digest_in}
 use Rattle.arrival.proofs.Heads.{kind_same}
 use Rattle.arrival.proofs.Windows.{lies_true}
 use Rattle.arrival_claims.proofs.Screening.{flash_of}
-use Rattle.arrival_claims.proofs.Effect.{Valid, spans_true, spans_is}
+use Rattle.arrival_claims.proofs.Effect.{spans_true, spans_is}
 use Rattle.demand.specs.Demand.{File, is_data, address_of, ValidFile, start_of, origin_of, storage_of, holds, lies_in, size_of, is_guarded, seen_of, Contents}
 use Rattle.demand.proofs.Files.{Located, located, valid as valid-blocks}
 use Rattle.demand.specs.Regions.{region_start, region_length, in_region, Final, Regions, Complete, RegionsEnd}
 use Rattle.demand.proofs.Regions.{regions_end}
-use Rattle.file_check.specs.declared.Checked.{Checked}
-use Rattle.file_check.specs.declared.Checked.TheVariants.{BadBuffers, BadSettings, Ragged, Empty, Refused, OtherFamily, OtherTotal, OtherKind, SameNumber, Overlap, Missing, Guarded, Valid as ValidFound}
-use Rattle.file_check.specs.Check.{piece_at, pieces_in, field_in, is_page, total_in, family_in, kind_in, is_sound, guards_in, is_guarding, check_of}
-use Rattle.file_check.specs.Valid.{Start, file_of, Good, answer_to}
+use Rattle.file_check.specs.declared.FileFault.TheVariants.{BadBuffers, BadSettings, Ragged, Empty, Refused, OtherFamily, OtherTotal, OtherKind, SameNumber, Overlap, Missing, Guarded}
+use Rattle.file_check.specs.Check.{Checked, piece_at, pieces_in, field_in, is_page, total_in, family_in, kind_in, is_sound, guards_in}
+use Rattle.file_check.specs.Valid.{Start, file_of, answer_to}
 use Rattle.file_check.proofs.Sound.{Sound, sound, valid, pieces, at, at_of, found_at, number_below, piece_size}
 use Rattle.file_check.proofs.Theorems.{empty, empty_start, size_all}
-use Rattle.file_check.specs.declared.fileregions.RegionsChecked.{RegionsChecked}
-use Rattle.file_check.specs.declared.fileregions.RegionsChecked.TheVariants.{Right}
-use Rattle.file_check.specs.Regions.{inside_of, final_of, names_regions, check_regions_of}
-use Rattle.file_check.specs.Told.{InRegion, Carries, sector_of, RightRegion, Told, RegionsAnswersAreTrue}
+use Rattle.file_check.specs.declared.fileregions.RegionsChecked.TheVariants.{Named}
+use Rattle.file_check.specs.Regions.{inside_of, final_of, names_regions}
+use Rattle.file_check.specs.Told.{InRegion, sector_of, RightRegion, Told, RegionsAnswersAreTrue}
 use Rattle.file_check.specs.FileregionsValid.{answer_on, RightIsRight, RightArrives}
 use Rattle.file_check.proofs.fileregions.Told.{inside_true, inside_yes, length_is, regions_answers_are_true}
 use Rattle.file_check.proofs.fileregions.Final.{spot, length_final, final_free, final_owned}
 
 guarded_sound : (x : Checked) → names_regions x ≡ true → is_sound x ≡ true
-guarded_sound (Guarded i) e = refl
-guarded_sound ValidFound e = refl
-guarded_sound BadBuffers e = e
-guarded_sound BadSettings e = e
-guarded_sound Ragged e = e
-guarded_sound Empty e = e
-guarded_sound (Refused i x) e = e
-guarded_sound (OtherFamily i) e = e
-guarded_sound (OtherTotal i) e = e
-guarded_sound (OtherKind i) e = e
-guarded_sound (SameNumber i j) e = e
-guarded_sound (Overlap i j) e = e
-guarded_sound (Missing k) e = e
+guarded_sound (Err (Guarded i)) e = refl
+guarded_sound (Ok u) e = refl
+guarded_sound (Err BadBuffers) e = e
+guarded_sound (Err BadSettings) e = e
+guarded_sound (Err Ragged) e = e
+guarded_sound (Err Empty) e = e
+guarded_sound (Err (Refused i x)) e = e
+guarded_sound (Err (OtherFamily i)) e = e
+guarded_sound (Err (OtherTotal i)) e = e
+guarded_sound (Err (OtherKind i)) e = e
+guarded_sound (Err (SameNumber i j)) e = e
+guarded_sound (Err (Overlap i j)) e = e
+guarded_sound (Err (Missing k)) e = e
 
 module _ (s : Settings) (n : Lengths) (f : List ℕ) (ok : Sound s n f) (w : World) (st : Start n w) where
   abbrev F : File
@@ -116,7 +114,7 @@ module _ (s : Settings) (n : Lengths) (f : List ℕ) (ok : Sound s n f) (w : Wor
       facts =
           let x = same_kind (kind_in n f) Flash && is_data F i && has_flag a 0x4000 in
           let c = good_true L.size (field_at a 12) (region_of a)
-          (ap (λ (p : Place). good_region (size_of p) (field_at a 12) (region_of a)) (sym L.place) ∙ and_right x (good_region (size_of (place_of s (flash_of w) (family_in f))) (field_at a 12) (region_of a)) gd) in
+          (ap (λ (p : Option Place). good_region (size_of p) (field_at a 12) (region_of a)) (sym L.place) ∙ and_right x (good_region (size_of (place_of s (flash_of w) (family_in f))) (field_at a 12) (region_of a)) gd) in
           record { starts = c.starts; ends = c.ends; window = c.window }
 
       -- in the region by its storage address, and by its address
@@ -262,8 +260,8 @@ module _ (s : Settings) (n : Lengths) (f : List ℕ) (ok : Sound s n f) (w : Wor
 
 -- ---- the claims
 
-module _ (s : Settings) (n : Lengths) (f : List ℕ) (e : answer_on s n f ≡ Right) where
-  told : Told s n 16384 16384 2080 n.flash f Right
+module _ (s : Settings) (n : Lengths) (f : List ℕ) (e : answer_on s n f ≡ Named (Ok tt)) where
+  told : Told s n 16384 16384 2080 n.flash f (Named (Ok tt))
   told =
       let k : Told s n 16384 16384 2080 n.flash f (answer_on s n f) = unfold RegionsAnswersAreTrue in regions_answers_are_true s n 16384 16384 2080 n.flash f in
       subst (Told s n 16384 16384 2080 n.flash f) e k

@@ -1,7 +1,5 @@
-use Prim.Native.Nat.{◌≤◌, ◌-◌}
 use mathlib.Core.Path.{◌≡◌}
 use mathlib.Core.Bool.{false}
-use lib.ListN.{length}
 use Rattle.laws.specs.Sets.{any}
 use Rattle.file_check.specs.Check.{is_faulty}
 use Rattle.file_checking.specs.Pieces.Parts.{maps, Holds}
@@ -10,7 +8,4 @@ use Rattle.file_checking.proofs.each_piece.Given as goal
 
 abbrev pub invariant-loop-i : goal.invariant-loop-i
 invariant-loop-i l =
-    (l.i ≤ l.n) × (any l.i (is_faulty l.settings l.lens l.file) ≡ false) × Holds l.settings l.lens l.file l.i (maps l.numbers l.cells l.offsets) × Knows l.settings l.lens.flash l.kept × (length l.numbers ≡ length l.initial.numbers) × (length l.cells ≡ length l.initial.cells) × (length l.offsets ≡ length l.initial.offsets)
-
-abbrev pub decreases-loop-i : goal.decreases-loop-i
-decreases-loop-i l = l.n - l.i
+    (any l.i (is_faulty l.settings l.lens l.file) ≡ false) × Holds l.settings l.lens l.file l.i (maps l.numbers l.cells l.offsets) × Knows l.settings l.lens.flash l.kept

@@ -1,18 +1,15 @@
-use mathlib.Core.Path.{sym, ◌∙◌}
-use borrow.Author.Tests.{not-true, not-false}
+use mathlib.Core.Path.{refl}
+use Rattle.std.proofs.lemmas.Result.{err_from_is_err_and}
 use Rattle.file_checking.proofs.Files.{fault_first, no_fault, counted}
 use Rattle.file_checking.proofs.every_piece.Goals as goal
 
-pub returns-then-not-is_valid : goal.returns-then-not-is_valid
-returns-then-not-is_valid c = fault_first _ _ _ c.each_piece-found.ensures.value (sym c.is_valid.ensures ∙ not-true _ c.if-not-is_valid.true-raw)
+pub returns-in_err-each_piece : goal.returns-in_err-each_piece
+returns-in_err-each_piece c =
+    let p = err_from_is_err_and c.from_residual.result c.from_residual.ensures.1 in
+    rw (p.1, p.2) (fault_first _ _ _ c.in_err-each_piece.ensures.value refl)
 
-pub whole-requires : goal.whole-requires
-whole-requires c =
-    let v = sym c.is_valid.ensures ∙ not-false _ c.if-not-is_valid.false-raw in
-    record {
-      counted = counted _ _ _ c.requires.opened c.requires.some c.each_piece-found.ensures.value v _ (c.each_piece-found.ensures.held v);
-      first = c.head_of-head.ensures;
-    }
+pub whole-requires-clause-counted : goal.whole-requires-clause-counted
+whole-requires-clause-counted c = counted _ _ _ c.requires.opened c.requires.some c.in_ok-each_piece.ensures.value refl _ c.in_ok-each_piece.ensures.held
 
 pub returns : goal.returns
-returns c = no_fault _ _ _ c.each_piece-found.ensures.value (sym c.is_valid.ensures ∙ not-false _ c.if-not-is_valid.false-raw) c.whole.ensures
+returns c = no_fault _ _ _ c.in_ok-each_piece.ensures.value refl c.whole.ensures

@@ -1,14 +1,15 @@
 -- What the maps say of a piece is what the definition says, and they hold it after. Assumes nothing.
-use Prim.Native.Nat.{ℕ, suc, ◌+◌, ◌-◌, ◌*◌, ◌/◌, ◌%◌, ◌<◌, ◌≤◌}
+use Prim.Native.Nat.{ℕ, suc, ◌+◌, ◌-◌, ◌/◌, ◌%◌, ◌<◌, ◌≤◌}
 use mathlib.Core.Path.{◌≡◌, refl, sym, ap, subst, ◌∙◌, fun_ext}
-use mathlib.Core.Logic.{◌≢◌, ◌⊎◌, inl, inr}
-use mathlib.Core.Bool.{Bool, true, false, cond, not, ◌&&◌, ◌||◌, or_comm}
+use mathlib.Core.Logic.{◌⊎◌, inl, inr}
+use mathlib.Core.Bool.{Bool, true, false, ◌&&◌, ◌||◌, or_comm}
 use mathlib.Core.List.{List}
 use native.Mathlib.Omega.{arith}
 use lib.Dec.{eqb, ltb}
 use lib.ListN.{length, set, length-set}
-use borrow.Author.Tests.{eqb-true, eqb-false, eq-eqb, ne_eqb, ltb-true, lt-ltb, not-true}
-use Rattle.laws.specs.Sets.{Set, any, add, least}
+use borrow.Author.Tests.{eqb-true, ltb-true, lt-ltb, not-true}
+use Rattle.std.specs.Prelude.{Ok}
+use Rattle.laws.specs.Sets.{Set, any, add}
 use Rattle.laws.proofs.Tests.{split, clash, is_false, eqb_same, and_left, and_right, both}
 use Rattle.laws.proofs.Laws.{any_hit, any_none, any_found}
 use Rattle.memory.specs.Bitmap.{marked_in, with_mark, map_of}
@@ -16,11 +17,10 @@ use Rattle.memory.proofs.bitmap.Laws.{length_mark}
 use Rattle.memory.proofs.bitmap.MapLaws.{marked_map, mark_map}
 use Rattle.memory.specs.Cells.{touches_in, Kept}
 use Rattle.memory.proofs.cells.Laws.{touched, touches_near, entered as cell-entered}
-use Rattle.uf2_block.specs.Block.{field_at, has_flag}
+use Rattle.uf2_block.specs.Block.{has_flag}
 use Rattle.memory.specs.Flash.{payload_of}
 use Rattle.memory.proofs.flash.Laws.{length_right}
 use Rattle.partitions.specs.declared.Settings.{Settings}
-use Rattle.placement.specs.declared.Place.TheVariants.{At}
 use Rattle.transfer.specs.Transfer.{same_kind, head_with}
 use Rattle.transfer.specs.declared.Kind.{Kind}
 use Rattle.transfer.specs.declared.Kind.TheVariants.{Flash, MainRam, XipRam}
@@ -28,24 +28,20 @@ use Rattle.transfer.specs.declared.Head.{Head}
 use Rattle.transfer.specs.declared.State.TheVariants.{Idle}
 use Rattle.uf2_checks.specs.Screen.{base_of, extent_of, rooms_of, room_in, screen_of}
 use Rattle.uf2_checks.specs.declared.Lengths.{Lengths}
-use Rattle.uf2_checks.specs.declared.Rooms.{Rooms}
 use Rattle.uf2_checks.specs.declared.Body.{Body}
 use Rattle.uf2_checks.specs.declared.Body.TheVariants.{Page, Note}
 use Rattle.uf2_checks.specs.declared.PlacedBlock.{PlacedBlock}
-use Rattle.uf2_checks.specs.declared.Screening.TheVariants as screening
-use Rattle.arrival.specs.Arrive.{World, lengths_of, buffer_of, ram_length}
+use Rattle.arrival.specs.Arrive.{World, buffer_of, ram_length}
 use Rattle.arrival.specs.File.{start_of}
 use Rattle.arrival.specs.Windows.{window_start, kind_of}
-use Rattle.arrival.proofs.Heads.{kind_same, same_kind_lem}
+use Rattle.arrival.proofs.Heads.{kind_same}
 use Rattle.arrival.proofs.Windows.{start_is}
 use Rattle.arrival.proofs.Paged.{Fits}
-use Rattle.arrival_claims.proofs.Screening.{lens, Board, Passing, Good, Room, screen_good, passing_room, passing_few, passing_body, passing_note, passing_fits}
-use Rattle.file_check.specs.declared.Checked.{Checked}
-use Rattle.file_check.specs.declared.Checked.TheVariants.{OtherFamily, OtherTotal, OtherKind, SameNumber, Overlap, Valid}
+use Rattle.arrival_claims.proofs.Screening.{Board, Passing, Good, screen_good, passing_few, passing_body, passing_note, passing_fits}
 use Rattle.file_check.specs.Check.{piece_at, pieces_in, field_in, is_page, kind_alone, total_in, family_in, kind_in, numbers_below, same_number, near, overlaps, beside_of, is_valid}
 use Rattle.file_check.specs.Valid.{Start}
 use Rattle.file_check.proofs.Sound.{Beside, Fine, kind_alone_lem, below_more, piece_size, beside, eqb_swap}
-use Rattle.file_checking.specs.Pieces.Parts.{Maps, maps, file_head, touching, entered, beside_by, start_in, starts_below, Holds}
+use Rattle.file_checking.specs.Pieces.Parts.{Maps, file_head, touching, entered, beside_by, start_in, starts_below, Holds}
 
 same_bool : (x y : Bool) → (x ≡ true → y ≡ true) → (y ≡ true → x ≡ true) → x ≡ y
 same_bool true y p q = sym (p refl)
@@ -76,7 +72,7 @@ fits_inside s w B XipRam at p x =
 
 module _ (s : Settings) (n : Lengths) (f : List ℕ) (w : World) (st : Start n w) (B : Board s w) where
   -- a piece that passes
-  module _ (i : ℕ) (p : PlacedBlock) (e : screen_of s n Idle (piece_at f i) ≡ screening.Passed p) where
+  module _ (i : ℕ) (p : PlacedBlock) (e : screen_of s n Idle (piece_at f i) ≡ Ok p) where
     passing : Passing s w (piece_at f i) p
     passing = subst (Good s w (piece_at f i)) ((λ j. screen_of s (st.lengths j) (st.idle j) (piece_at f i)) ∙ e) (screen_good s w (piece_at f i))
 
@@ -107,7 +103,7 @@ module _ (s : Settings) (n : Lengths) (f : List ℕ) (w : World) (st : Start n w
 
   -- the pieces before piece i are fine, and the maps hold them; piece i passes, and is of the file's family and kind
   module _ (i : ℕ) (m : Maps) (held : Holds s n f i m) (h : i < pieces_in f) (fines : (j : ℕ) → j < i → Fine s n f j)
-      (p : PlacedBlock) (e : screen_of s n Idle (piece_at f i) ≡ screening.Passed p) where
+      (p : PlacedBlock) (e : screen_of s n Idle (piece_at f i) ≡ Ok p) where
     marked-is : marked_in m.numbers p.number ≡ any i (same_number f i)
     marked-is =
         (λ t. marked_in (held.numbers t) ((passing i p e).number t))

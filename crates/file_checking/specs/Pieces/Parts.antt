@@ -1,22 +1,19 @@
 -- One piece of a file, as the code asks: by the maps of the pieces before it. Assumes nothing.
-use Rattle.std.specs.Prelude.{ℕ, ◌+◌, ◌-◌, ◌/◌, ◌%◌, ◌≡◌, Bool, true, false, cond, not, ◌&&◌, List, eqb, length, set}
+use Rattle.std.specs.Prelude.{ℕ, ◌+◌, ◌-◌, ◌/◌, ◌%◌, ◌≡◌, Bool, false, cond, not, ◌&&◌, List, eqb, length, set, Ok, Err}
 use Rattle.laws.specs.Sets.{Set, any, least}
 use Rattle.memory.specs.Bitmap.{marked_in, with_mark, map_of}
 use Rattle.memory.specs.Cells.{touches_in, Kept}
 use Rattle.partitions.specs.declared.Settings.{Settings}
 use Rattle.transfer.specs.Transfer.{same_kind, head_with}
 use Rattle.transfer.specs.declared.Head.{Head}
-use Rattle.uf2_checks.specs.Screen.{base_of, rooms_of, room_in}
+use Rattle.uf2_checks.specs.Screen.{base_of, rooms_of, room_in, Screening}
 use Rattle.uf2_checks.specs.declared.Lengths.{Lengths}
 use Rattle.uf2_checks.specs.declared.Body.{Body}
 use Rattle.uf2_checks.specs.declared.Body.TheVariants.{Page, Note}
 use Rattle.uf2_checks.specs.declared.PlacedBlock.{PlacedBlock}
-use Rattle.uf2_checks.specs.declared.Screening.{Screening}
-use Rattle.uf2_checks.specs.declared.Screening.TheVariants as screening
 use Rattle.arrival.specs.File.{start_of}
-use Rattle.file_check.specs.declared.Checked.{Checked}
-use Rattle.file_check.specs.declared.Checked.TheVariants.{Refused, OtherFamily, OtherTotal, OtherKind, SameNumber, Overlap, Valid}
-use Rattle.file_check.specs.Check.{field_in, is_page, total_in, family_in, kind_in, numbers_below, same_number, overlaps, is_valid}
+use Rattle.file_check.specs.declared.FileFault.TheVariants.{Refused, OtherFamily, OtherTotal, OtherKind, SameNumber, Overlap}
+use Rattle.file_check.specs.Check.{Checked, field_in, is_page, total_in, family_in, kind_in, numbers_below, same_number, overlaps, is_valid}
 
 -- the lent maps: the numbers that came, and where payloads start
 pub record Maps : Type 0 where
@@ -54,12 +51,12 @@ entered b k m = maps (with_mark m.numbers k) (cells_with b m.cells) (offsets_wit
 -- what is wrong with a block that passes, by the maps
 unfoldable pub beside_by : Head → PlacedBlock → List ℕ → ℕ → Maps → Checked
 beside_by h p f i m =
-    cond (not (eqb p.head.family h.family)) (OtherFamily i)
-    (cond (not (eqb p.head.total h.total)) (OtherTotal i)
-    (cond (not (same_kind p.head.kind h.kind)) (OtherKind i)
-    (cond (marked_in m.numbers p.number) (SameNumber i (least i (same_number f i)))
-    (cond (touching p.body m) (Overlap i (least i (overlaps f i)))
-    Valid))))
+    cond (not (eqb p.head.family h.family)) (Err (OtherFamily i))
+    (cond (not (eqb p.head.total h.total)) (Err (OtherTotal i))
+    (cond (not (same_kind p.head.kind h.kind)) (Err (OtherKind i))
+    (cond (marked_in m.numbers p.number) (Err (SameNumber i (least i (same_number f i))))
+    (cond (touching p.body m) (Err (Overlap i (least i (overlaps f i))))
+    (Ok tt)))))
 
 -- the maps after it: with the block where nothing is wrong
 unfoldable pub maps_by : Head → PlacedBlock → List ℕ → ℕ → Maps → Maps
@@ -67,12 +64,12 @@ maps_by h p f i m = cond (is_valid (beside_by h p f i m)) (entered p.body p.numb
 
 -- by what it is screened to, and the maps then
 abbrev pub screened_by : Head → List ℕ → ℕ → Maps → Screening → Checked
-screened_by h f i m (screening.Refused x) = Refused i x
-screened_by h f i m (screening.Passed p) = beside_by h p f i m
+screened_by h f i m (Err x) = Err (Refused i x)
+screened_by h f i m (Ok p) = beside_by h p f i m
 
 abbrev pub maps_then : Head → List ℕ → ℕ → Maps → Screening → Maps
-maps_then h f i m (screening.Refused x) = m
-maps_then h f i m (screening.Passed p) = maps_by h p f i m
+maps_then h f i m (Err x) = m
+maps_then h f i m (Ok p) = maps_by h p f i m
 
 -- ---- what the maps hold after the pieces below i
 

@@ -12,7 +12,7 @@ slice_bounds-put_piece-end c = sym (length-take-le _ c.args.bytes.now (omega (ar
 pub put_piece-next-requires : goal.put_piece-next-requires
 put_piece-next-requires c =
     let a = c.args in
-    (omega arith, omega arith, omega (arith, length-take (65536 - a.address % 65536) a.bytes.now))
+    (omega arith, omega (arith, length-take (65536 - a.address % 65536) a.bytes.now))
 
 pub slice_bounds-put_piece-count : goal.slice_bounds-put_piece-count
 slice_bounds-put_piece-count c = omega (arith, is_cut c.args.address c.crosses.ensures c.if-crosses.true)
@@ -24,16 +24,16 @@ pub put_piece-requires : goal.put_piece-requires
 put_piece-requires c =
     let a = c.args in
     let f = second_fits a.tally (a.address / 65536) a.bytes.now (65536 - a.address % 65536) (omega arith) (omega arith) c.put_piece-next.ensures.value in
-    (omega arith, f.0, f.1)
+    f
 
 pub returns-then-crosses : goal.returns-then-crosses
 returns-then-crosses c =
     let a = c.args in
-    let both = put_cut_by a.out.now a.kind a.at a.tally a.address a.bytes.now _ (is_cut c.args.address c.crosses.ensures c.if-crosses.true) refl c.put_piece-next.ensures.value c.put_piece-next.ensures.lines c.put_piece.ensures.value c.put_piece.ensures.lines in
+    let both = put_cut_by a.out.now a.place.kind a.place.at a.tally a.address a.bytes.now _ (is_cut c.args.address c.crosses.ensures c.if-crosses.true) refl c.put_piece-next.ensures.value c.put_piece-next.ensures.lines c.put_piece.ensures.value c.put_piece.ensures.lines in
     record { value = both.0; lines = both.1 }
 
 pub returns : goal.returns
 returns c =
     let a = c.args in
-    let both = put_whole a.out.now a.kind a.at a.tally a.address a.bytes.now (is_whole a.address c.crosses.ensures c.if-crosses.false) c.put_piece-2.ensures.value c.put_piece-2.ensures.lines in
+    let both = put_whole a.out.now a.place.kind a.place.at a.tally a.address a.bytes.now (is_whole a.address c.crosses.ensures c.if-crosses.false) c.put_piece-2.ensures.value c.put_piece-2.ensures.lines in
     record { value = both.0; lines = both.1 }

@@ -10,7 +10,7 @@ returns-then-changes c =
     let a = c.args in
     record {
       value = c.with_piece-next.ensures;
-      lines = put_changed a.out.now a.kind (a.at + a.tally.len) a.tally a.upper a.lower a.bytes.now c.changes.ensures c.if-changes.true c.put_word.ensures (c.put_record.ensures ∙ put_record_line _ _ _ _ _ (omega arith));
+      lines = put_changed a.out.now a.place.kind (a.place.at + a.tally.len) a.tally a.upper a.lower a.bytes.now c.changes.ensures c.if-changes.true c.put_word.ensures (c.put_record.ensures ∙ put_record_line _ _ _ _ _ (omega arith));
     }
 
 pub returns : goal.returns
@@ -18,5 +18,5 @@ returns c =
     let a = c.args in
     record {
       value = c.with_piece-next.ensures;
-      lines = put_unchanged a.out.now a.kind (a.at + a.tally.len) a.tally a.upper a.lower a.bytes.now c.changes.ensures c.if-changes.false (c.put_record-2.ensures ∙ put_record_line _ _ _ _ _ (omega arith));
+      lines = put_unchanged a.out.now a.place.kind (a.place.at + a.tally.len) a.tally a.upper a.lower a.bytes.now c.changes.ensures c.if-changes.false (c.put_record-2.ensures ∙ put_record_line _ _ _ _ _ (omega arith));
     }

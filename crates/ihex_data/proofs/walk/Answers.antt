@@ -6,19 +6,21 @@ use Rattle.ihex_data.proofs.walk.Goals as goal
 pub loop-i-init : goal.loop-i-init
 loop-i-init c = rw (c.fresh.ensures, c.fresh-2.ensures) (going_first _ _ _ _)
 
-pub returns-in_default : goal.returns-in_default
-returns-in_default c =
+pub returns-in-Err : goal.returns-in-Err
+returns-in-Err c =
     let a = c.args in
     let w = c.loop-i in
-    going_stop a.out.now a.at a.kind a.text.now w.invariant c.loop-i-test.true c.line_end-e.ensures.value c.put_line-step.ensures.value c.in_default.is c.put_line-step.ensures.lines c.answer_of.ensures
+    rw c.first_or.ensures
+    (going_stop a.out.now a.place.at a.place.kind a.text.now w.invariant c.loop-i-test.true c.line_end-e.ensures.value c.put_line.ensures.value c.in-Err.is c.put_line.ensures.lines)
 
 pub loop-i-preserved : goal.loop-i-preserved
 loop-i-preserved c =
     let a = c.args in
     let w = c.loop-i in
-    going_next a.out.now a.at a.kind a.text.now w.invariant c.loop-i-test.true c.line_end-e.ensures.value c.put_line-step.ensures.value c.in-On.is c.put_line-step.ensures.lines (search rules)
+    going_next a.out.now a.place.at a.place.kind a.text.now w.invariant c.loop-i-test.true c.line_end-e.ensures.value c.put_line.ensures.value c.in-Ok.is c.put_line.ensures.lines (search rules)
 
 pub returns : goal.returns
 returns c =
     let a = c.args in
-    going_last a.out.now a.at a.kind a.text.now c.loop-i.invariant c.loop-i-test.false (answer_is c.close.ensures)
+    rw c.first_or-2.ensures
+    (going_last a.out.now a.place.at a.place.kind a.text.now c.loop-i.invariant c.loop-i-test.false (rw c.is_some.ensures at (answer_is c.close.ensures)))

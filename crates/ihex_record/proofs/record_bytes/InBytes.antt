@@ -1,8 +1,9 @@
 -- What rows 23 to 25 decide, of bytes that begin with those that a line says. Assumes nothing.
 use Rattle.std.proofs.Common.{◌≡◌, ℕ, ◌+◌, ◌*◌, ◌/◌, ◌%◌, ◌<◌, ◌≤◌, eqb, ltb, List, take, sym, ap, ◌∙◌, arith, get_or-take, ltb-false, ltb-true, eqb-true}
+use Rattle.std.specs.Prelude.{Err}
 use borrow.Author.Tests.{eqb-false}
 use Rattle.laws.proofs.Tests.{split}
-use Rattle.ihex_record.specs.declared.ParseResult.TheVariants.{TooLong, BadLength, BadSum}
+use Rattle.ihex_record.specs.declared.LineError.TheVariants.{TooLong, BadLength, BadSum}
 use Rattle.ihex_record.specs.Record.{len_of, total, good, refused, line_of_bytes}
 use Rattle.ihex_record.proofs.Checks.{is_too_long, is_bad_length, is_bad_sum, is_good_lem}
 use Rattle.ihex_record.specs.Bytes.{line_in}
@@ -18,17 +19,17 @@ module _ (n : ℕ) (b : List ℕ) where
   len_all : len_of all ≡ len_of b
   len_all = len_first (len_of b + 5) (omega arith)
 
-  pub in_too_long : 32 < len_of b → refused TooLong ≡ line_in n b
+  pub in_too_long : 32 < len_of b → refused (Err TooLong) ≡ line_in n b
   unfolding line_in
   in_too_long h = is_too_long n all (rw len_all h)
 
   module _ (fits : len_of b ≤ 32) where
-    pub in_bad_length : (n ≡ 11 + 2 * len_of b → ⊥) → refused BadLength ≡ line_in n b
+    pub in_bad_length : (n ≡ 11 + 2 * len_of b → ⊥) → refused (Err BadLength) ≡ line_in n b
     unfolding line_in
     in_bad_length h = is_bad_length n all (rw len_all fits) (rw len_all h)
 
     module _ (long : n ≡ 11 + 2 * len_of b) where
-      pub in_bad_sum : (total all % 256 ≡ 0 → ⊥) → refused BadSum ≡ line_in n b
+      pub in_bad_sum : (total all % 256 ≡ 0 → ⊥) → refused (Err BadSum) ≡ line_in n b
       unfolding line_in
       in_bad_sum h = is_bad_sum n all (rw len_all fits) (rw len_all long) h
 

@@ -1,7 +1,8 @@
 -- Rows 22 to 25, of a text whose characters are decoded into 37 bytes. Assumes nothing.
 use Rattle.std.proofs.Common.{◌≡◌, ℕ, ◌+◌, ◌-◌, ◌*◌, ◌/◌, ◌%◌, ◌<◌, ◌≤◌, true, false, ltb, List, length, get_or, take, drop, sym, ap, ◌∙◌, arith, length-drop, take_all, get_or-take, ltb-false, ltb-true}
+use Rattle.std.specs.Prelude.{Err}
 use Rattle.laws.proofs.Tests.{split}
-use Rattle.ihex_record.specs.declared.ParseResult.TheVariants.{BadDigit}
+use Rattle.ihex_record.specs.declared.LineError.TheVariants.{BadDigit}
 use Rattle.ihex_record.specs.Record.{digit_of, all_digits, first_bad, bytes_of, len_of, bad_shape, refused, line_of_bytes, line_of_text}
 use Rattle.hex_digits.proofs.Digits.{length_bytes, Decoding, rest}
 use Rattle.hex_digits.proofs.FirstBad.{bad_some, bad_all}
@@ -31,7 +32,7 @@ module _ (t : List ℕ) (some : length t ≡ 0 → ⊥) (colon : get_or t 0 0 �
     found_in : b ≡ first_bad (drop 1 t)
     found_in = found ∙ ap first_bad (rest 1 t)
 
-    pub is_bad_at : b < length t - 1 → refused (BadDigit (b + 1)) ≡ line_of_text t
+    pub is_bad_at : b < length t - 1 → refused (Err (BadDigit (b + 1))) ≡ line_of_text t
     is_bad_at h =
         is_bad_digit t some colon shape (omega (arith, found_in)) (bad_some (drop 1 t) (omega (arith, found_in, length-drop 1 t)))
 

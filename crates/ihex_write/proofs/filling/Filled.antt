@@ -1,6 +1,7 @@
 -- The filling of a section: one 0C more while more than 64 characters are missing, then the 0B. Assumes nothing.
-use Rattle.std.proofs.Common.{◌≡◌, ℕ, zero, suc, ◌+◌, ◌-◌, ◌*◌, ◌/◌, ◌%◌, ◌<◌, ◌≤◌, List, [], ◌∷◌, ◌++◌, length, take, replicate, sym, refl, ap, ◌∙◌, arith, length-append, length-take-le}
+use Rattle.std.proofs.Common.{◌≡◌, ℕ, zero, suc, ◌+◌, ◌-◌, ◌*◌, ◌/◌, ◌%◌, ◌<◌, ◌≤◌, List, [], ◌∷◌, ◌++◌, length, replicate, sym, refl, ◌∙◌, arith, length-append}
 use mathlib.Core.List.{flatten}
+use Rattle.std.proofs.lemmas.List.{length-replicate}
 use Rattle.ihex_record.specs.Types.{block_end, padded_data}
 use Rattle.ihex_write.specs.Put.{put_line, put_lines}
 use Rattle.ihex_write.proofs.Line.{length_line}
@@ -23,34 +24,21 @@ fill_last m h =
 
 -- ---- written
 
-take_filling : (n k : ℕ) → n ≤ k → take n (replicate {A = ℕ} k 255) ≡ replicate n 255
-take_filling zero k h = refl
-take_filling (suc n) zero h = absurd (omega arith)
-take_filling (suc n) (suc k) h = ap (λ (l : List ℕ). 255 ∷ l) (take_filling n k (omega arith))
-
--- of a whole record's filling
-pub filling_part : (n : ℕ) → n ≤ 32 → take n (replicate {A = ℕ} 32 255) ≡ replicate n 255
-filling_part n h = take_filling n 32 h
-
-pub filling_length : (n : ℕ) → n ≤ 32 → n ≡ length (take n (replicate {A = ℕ} 32 255))
-filling_length n h = sym (length-take-le n (replicate {A = ℕ} 32 255) h)
-
-pub put_pad : (o : List ℕ) (at m : ℕ) {q : List ℕ} {r : List ℕ} → 64 < m → put_lines o at (fill_lines m) ≡ r → q ≡ put_line o at pad_line
-    → put_lines q (at + 64) (fill_lines (m - 64)) ≡ r
+pub put_pad : (o : List ℕ) (at k m : ℕ) {q : List ℕ} {r : List ℕ} → 64 < m - 64 * k → put_lines o (at + 64 * k) (fill_lines (m - 64 * k)) ≡ r
+    → q ≡ put_line o (at + 64 * k) pad_line → put_lines q (at + 64 * (k + 1)) (fill_lines (m - 64 * (k + 1))) ≡ r
 unfolding put_lines
-put_pad o at m {q} {r} h e p =
+put_pad o at k m {q} {r} h e p =
     let n : length pad_line ≡ 64 = length_line padded_data 0 (replicate 26 255) in
-    let f : put_lines (put_line o at pad_line) (at + length pad_line) (fill_lines (m - 64)) ≡ r = rw (fill_more m h) at e in
-    rw p (ap (λ (k : ℕ). put_lines (put_line o at pad_line) k (fill_lines (m - 64))) (omega arith) ∙ f)
+    let place : at + 64 * (k + 1) ≡ at + 64 * k + length pad_line = omega arith in
+    let less : m - 64 * (k + 1) ≡ m - 64 * k - 64 = omega arith in
+    let f : put_lines (put_line o (at + 64 * k) pad_line) (at + 64 * k + length pad_line) (fill_lines (m - 64 * k - 64)) ≡ r =
+    rw (fill_more (m - 64 * k) h) at e in
+    rw (p, place, less) f
 
 pub put_close : (o : List ℕ) (at m : ℕ) {q : List ℕ} {r : List ℕ} → m ≤ 64 → put_lines o at (fill_lines m) ≡ r → q ≡ put_line o at (close_line m) → q ≡ r
 put_close o at m h e p = p ∙ sym (put_one o at (close_line m)) ∙ rw (fill_last m h) at e
 
 -- ---- how long it is
-
-length_replicate : (n : ℕ) → length (replicate {A = ℕ} n 255) ≡ n
-length_replicate zero = refl
-length_replicate (suc n) = ap suc (length_replicate n)
 
 length_pads : (n : ℕ) (ls : List (List ℕ)) → length (flatten (replicate n pad_line ++ ls)) ≡ 64 * n + length (flatten ls)
 unfolding flatten
@@ -63,9 +51,6 @@ length_pads (suc n) ls =
       length_pads n ls,
     )
 
-pub filling_few : (n : ℕ) → n ≤ 32 → length (replicate {A = ℕ} n 255) ≤ 32
-filling_few n h = omega (arith, length_replicate n)
-
 pub length_fill : (m : ℕ) → m % 2 ≡ 0 → length (flatten (fill_lines m)) ≡ 12 + m
 unfolding fill_lines flatten
 length_fill m e =
@@ -77,5 +62,5 @@ length_fill m e =
       length_pads k (last ∷ []),
       length-append last [],
       length_line block_end 0 (replicate (rest / 2) 255),
-      length_replicate (rest / 2),
+      length-replicate {A = ℕ} (rest / 2) 255,
     )

@@ -1,13 +1,15 @@
-use Rattle.md5_digest.proofs.Laws.{shift_bounds, turned}
+use native.Mathlib.Omega.{arith}
+use Rattle.md5_digest.proofs.Laws.{step_f, step_g, step_h, step_i}
 use Rattle.md5_digest.proofs.step.Goals as goal
 
-pub rotate_left-requires : goal.rotate_left-requires
-rotate_left-requires c =
-    let s = c in
-    shift_bounds s.args.ns.now s.args.i s.requires.4 s.requires.0
+pub returns-then-this-eq0 : goal.returns-then-this-eq0
+returns-then-this-eq0 g c = step_f _ _ c.args.s (omega arith) c.mix_f.ensures c.operation.ensures
+
+pub returns-then-this-eq1 : goal.returns-then-this-eq1
+returns-then-this-eq1 g c = step_g _ _ c.args.s (omega arith) (omega arith) c.mix_g.ensures c.operation-then-this-eq1.ensures
+
+pub returns-then-this-eq2 : goal.returns-then-this-eq2
+returns-then-this-eq2 g c = step_h _ _ c.args.s (omega arith) (omega arith) c.mix_h.ensures c.operation-then-this-eq2.ensures
 
 pub returns : goal.returns
-returns c =
-    let s = c in
-    turned s.args.m.now s.args.ks.now s.args.ns.now s.args.i s.args.f s.args.p s.args.s _ _ _ _ _ _
-    s.requires.3 s.requires.4 c.word-w.ensures c.sum.ensures c.sum-2.ensures c.sum-x.ensures c.rotate_left.ensures c.sum-3.ensures
+returns g c = step_i _ _ c.args.s (omega arith) c.mix_i.ensures c.operation-2.ensures

@@ -1,6 +1,6 @@
-use Rattle.std.proofs.Common.{sym, ◌∙◌}
-use Rattle.laws.proofs.BytesLaws.{number_four}
+use Rattle.std.proofs.Common.{◌∙◌}
+use Rattle.laws.proofs.BytesLaws.{read_four}
 use Rattle.md5_digest.proofs.word.Goals as goal
 
 pub returns : goal.returns
-returns c = c.joined.ensures ∙ sym (number_four _ _)
+returns c = c.from_le_bytes.ensures ∙ read_four _ _

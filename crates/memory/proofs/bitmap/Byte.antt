@@ -6,10 +6,11 @@ use Prim.Native.Nat.{ℕ, ◌+◌, ◌-◌, ◌*◌, ◌/◌, ◌%◌, ◌^◌, 
 use native.Mathlib.Nat.{add-mul-div_left, add-div_right}
 use native.Mathlib.Decide.{dec_lt, ℕ_discrete}
 use native.Mathlib.Omega.{arith}
-use lib.Bits.{bit_and, bit_or, and_high, or_add_and}
+use lib.Bits.{bit_and, bit_or, or_add_and}
 use lib.Pow.{pow_pos, pow-add, shr-shr, shl-shr}
 use lib.Dec.{eqb}
 use borrow.Author.Tests.{eq-eqb, ne_eqb, eqb-false}
+use Rattle.laws.proofs.Masks.{and_bit, mask_bit}
 use Rattle.laws.proofs.Tests.{split}
 use Rattle.memory.specs.Bitmap.{bit, with_bit}
 
@@ -55,12 +56,6 @@ with_other b i j hi hj n =
 
 -- ---- bits by masks
 
-and_bit : (b p : ℕ) → bit_and b (2 ^ p) ≡ b / 2 ^ p % 2 * 2 ^ p
-and_bit b p = ap (λ (m : ℕ). bit_and b m) whole ∙ and_high b 1 p
-  where
-    whole : 2 ^ p ≡ 2 ^ (1 + p) - 2 ^ p
-    whole = rw (pow-add 2 1 p) (omega arith)
-
 shifted : (i : ℕ) → i < 8 → 128 / 2 ^ i ≡ 2 ^ (7 - i)
 shifted i l = ap (λ (x : ℕ). x / 2 ^ i) (ap (λ (x : ℕ). 2 ^ x) e ∙ pow-add 2 (7 - i) i) ∙ shl-shr (2 ^ (7 - i)) i
   where
@@ -82,14 +77,4 @@ or_mask b i l = rw (shifted i l) (by-case (ℕ_discrete (b / 2 ^ (7 - i) % 2) 1)
 
 pub and_mask : (b i : ℕ) → i < 8 → not (eqb (bit_and b (128 / 2 ^ i)) 0) ≡ bit b i
 unfolding bit
-and_mask b i l = rw (shifted i l) (by-case (ℕ_discrete (b / 2 ^ (7 - i) % 2) 1))
-  where
-    by-case : Dec (b / 2 ^ (7 - i) % 2 ≡ 1) → not (eqb (bit_and b (2 ^ (7 - i))) 0) ≡ bit b i
-    by-case (yes e) =
-        rw (
-          eq-eqb (b / 2 ^ (7 - i) % 2) 1 e,
-          ne_eqb (bit_and b (2 ^ (7 - i))) 0 (λ z. omega (arith, rw e at (and_bit b (7 - i)), pow_pos (7 - i))),
-        )
-    by-case (no e) =
-        let z : b / 2 ^ (7 - i) % 2 ≡ 0 = omega arith in
-        rw (ne_eqb (b / 2 ^ (7 - i) % 2) 1 e, eq-eqb (bit_and b (2 ^ (7 - i))) 0 (omega (arith, rw z at (and_bit b (7 - i)))))
+and_mask b i l = rw (shifted i l) (mask_bit b (7 - i))

@@ -1,6 +1,6 @@
 -- What is written is read back, and bytes of another length are a part that 71 refuses. Assumes nothing.
-use Prim.Native.Nat.{ℕ, ◌+◌, ◌<◌, ◌^◌}
-use mathlib.Core.Path.{◌≡◌, refl, sym, ap, ◌∙◌}
+use Prim.Native.Nat.{ℕ, ◌<◌, ◌^◌}
+use mathlib.Core.Path.{◌≡◌, sym, ap, ◌∙◌}
 use mathlib.Core.Logic.{◌≢◌}
 use mathlib.Core.Bool.{false}
 use mathlib.Core.List.{List, [], ◌++◌, append_assoc, append-nil}
@@ -12,7 +12,7 @@ use Rattle.laws.proofs.BytesLaws.{length_low}
 use Rattle.uf2_block.specs.Block.{field_at}
 use Rattle.uf2_block.specs.Write.{le32}
 use Rattle.uf2_block.proofs.WriteLaws.{field_le32}
-use Rattle.trace_layout.specs.Reports.{report_from, report_bytes}
+use Rattle.trace_layout.specs.Reports.{report_bytes}
 use Rattle.trace_layout.proofs.reports.Back.{Small, report_back, other_refused}
 use Rattle.trace_parts.specs.declared.Part.{Part}
 use Rattle.trace_parts.specs.Merging.{good_part}

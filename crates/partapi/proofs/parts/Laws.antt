@@ -1,6 +1,6 @@
 -- Parts read from bytes, and written. Assumes nothing.
-use Prim.Native.Nat.{ℕ, ◌+◌, ◌-◌, ◌*◌, ◌≤◌, ◌<◌}
-use mathlib.Core.Path.{◌≡◌, refl, sym, ap, ◌∙◌}
+use Prim.Native.Nat.{ℕ}
+use mathlib.Core.Path.{◌≡◌, sym, ap, ◌∙◌}
 use mathlib.Core.Logic.{◌≢◌}
 use mathlib.Core.List.{List, ◌++◌, append_assoc}
 use native.Mathlib.Omega.{arith}
@@ -12,24 +12,12 @@ use Rattle.laws.specs.Over.{over}
 use Rattle.laws.proofs.BytesLaws.{length_low}
 use Rattle.laws.proofs.OverLaws as overs
 use Rattle.laws.proofs.RowsLaws.{length_rows}
-use Rattle.uf2_block.specs.Block.{field_at}
 use Rattle.uf2_block.specs.Write.{le32, put_at}
 use Rattle.uf2_block.proofs.WriteLaws.{put_after}
 use Rattle.trace_counts.specs.declared.Report.{Report}
-use Rattle.trace_layout.specs.Reports.{report_from, word_of, word_bytes, report_bytes, report_written}
+use Rattle.trace_layout.specs.Reports.{word_of, word_bytes, report_bytes, report_written}
 use Rattle.trace_parts.specs.declared.Part.{Part}
-use Rattle.partapi.specs.Parts.{part_with, no_part, part_from, part_bytes, part_written}
-
--- ---- read
-
-module _ (b : List ℕ) where
-  pub read_other : length b ≢ 96 → {p : Part} → p ≡ no_part → p ≡ part_from b
-  unfolding part_from
-  read_other h e = e ∙ rw (ne_eqb (length b) 96 h)
-
-  pub read_all : length b ≡ 96 → {r : Report} {n x d : ℕ} → r ≡ report_from (take 84 b) → n ≡ field_at b 84 → x ≡ field_at b 88 → d ≡ field_at b 92 → part_with r n x d ≡ part_from b
-  unfolding part_from
-  read_all h hr hn hx hd = rw (eq-eqb (length b) 96 h, hr, hn, hx, hd)
+use Rattle.partapi.specs.Parts.{part_bytes, part_written}
 
 -- ---- written
 

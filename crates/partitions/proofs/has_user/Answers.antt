@@ -1,8 +1,9 @@
-use mathlib.Core.Path.{refl}
-use Rattle.laws.specs.Sets.{any}
+use borrow.Author.Rules.{rules}
+use Prim.Native.Nat.{ℕ}
+use lib.Dec.{eqb}
 use Rattle.partitions.specs.Settings.{has_user}
 use Rattle.partitions.proofs.has_user.Goals as goal
 
 pub returns : goal.returns
-unfolding any has_user
-returns c = refl
+unfolding has_user
+returns c = c.any_user.ensures (λ (x : ℕ). eqb x c.args.family) (λ x r h. search rules)

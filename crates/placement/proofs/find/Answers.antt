@@ -29,7 +29,7 @@ offset_bounds-table-k c =
     let d = c in
     let x = d.args in
     let h = chosen_is x.settings x.family _ _ d.choose.ensures d.used_count.ensures d.query-w.ensures in
-    let l = entry_below x.settings x.family (sym h ∙ c.in-Entry.is) in
+    let l = entry_below x.settings x.family (sym h ∙ c.in-Some.is) in
     omega arith
 
 pub bounds-table-k : goal.bounds-table-k
@@ -37,21 +37,21 @@ bounds-table-k c =
     let d = c in
     let x = d.args in
     let h = chosen_is x.settings x.family _ _ d.choose.ensures d.used_count.ensures d.query-w.ensures in
-    let l = entry_below x.settings x.family (sym h ∙ c.in-Entry.is) in
+    let l = entry_below x.settings x.family (sym h ∙ c.in-Some.is) in
     omega arith
 
-pub returns-in-Nothing : goal.returns-in-Nothing
-returns-in-Nothing c =
+pub returns-in-None : goal.returns-in-None
+returns-in-None c =
     let d = c in
     let x = d.args in
     let h = chosen_is x.settings x.family _ _ d.choose.ensures d.used_count.ensures d.query-w.ensures in
-    let e = ap (place_of_choice x.settings.table) (sym h ∙ c.in-Nothing.is) in
+    let e = ap (place_of_choice x.settings.table) (sym h ∙ c.in-None.is) in
     record { result_value = ap (numbered place_number) (sym (place_table _ _ _ d.if-family-eq-ABSOLUTE.false d.if-family-eq-RP2040.false d.if-count-eq0.false ∙ e)); low = tt }
 
-pub returns-in-Entry : goal.returns-in-Entry
-returns-in-Entry c =
+pub returns-in-Some : goal.returns-in-Some
+returns-in-Some c =
     let d = c in
     let x = d.args in
     let h = chosen_is x.settings x.family _ _ d.choose.ensures d.used_count.ensures d.query-w.ensures in
-    let e = ap (place_of_choice x.settings.table) (sym h ∙ c.in-Entry.is) in
+    let e = ap (place_of_choice x.settings.table) (sym h ∙ c.in-Some.is) in
     record { result_value = ap (numbered place_number) (c.bytes_of.ensures.value ∙ sym (place_table _ _ _ d.if-family-eq-ABSOLUTE.false d.if-family-eq-RP2040.false d.if-count-eq0.false ∙ e)); low = c.bytes_of.ensures.low }

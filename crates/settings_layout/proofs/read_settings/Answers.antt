@@ -1,8 +1,9 @@
 use mathlib.Core.Path.{◌≡◌, ap, ◌∙◌}
 use native.Mathlib.Omega.{arith}
 use Rattle.partitions.proofs.Tables.{filled_none, filled_more}
+use Rattle.partitions.specs.Settings.{arch_from as of_flag}
 use Rattle.settings_layout.specs.Layout.{used_of, settings_of}
-use Rattle.settings_layout.proofs.Table.{entry_part, used_whole, settings_read}
+use Rattle.settings_layout.proofs.Table.{arch_on, entry_part, used_whole, settings_read}
 use borrow.Author.Rules.{rules}
 use Rattle.settings_layout.proofs.read_settings.Goals as goal
 
@@ -17,7 +18,7 @@ slice_bounds-entry-end c = let whole = used_whole c.args.bytes.now c.loop-k.inva
 pub loop-k-preserved : goal.loop-k-preserved
 loop-k-preserved c =
     let at = c.loop-k in
-    (search rules, at.invariant.1, at.invariant.2, filled_more _ at.k at.table (omega arith) at.invariant.3 (entry_part _ at.k c.entry-e.ensures))
+    (search rules, at.invariant.1, at.invariant.2, filled_more _ at.k at.table (omega arith) at.invariant.3 (entry_part _ at.k c.entry.ensures))
 
 pub returns : goal.returns
 unfolding settings_of
@@ -28,10 +29,9 @@ returns c =
     let e : at.k ≡ made.used-n.result = omega arith in
     settings_read _ at.table at.invariant.2 (rw e at at.invariant.3)
     (simp (
+      made.from-current.ensures ∙ ap of_flag made.on.ensures ∙ arch_on _,
       arch.on-arm.ensures,
       arch.on-riscv.ensures,
-      arch.byte.ensures,
-      arch.arch-current.ensures,
       made.on-auto_switch.ensures,
       made.on-absolute.ensures,
       made.count-count.ensures,

@@ -1,4 +1,4 @@
-use Prim.Native.Nat.{◌≤◌, ◌-◌}
+use Prim.Native.Nat.{◌≤◌}
 use mathlib.Core.Path.{◌≡◌}
 use Rattle.partitions.proofs.Tables.{Filled}
 use Rattle.settings_layout.specs.Layout.{entry_in, count_from, used_of}
@@ -7,6 +7,3 @@ use Rattle.settings_layout.proofs.read_settings.Given as goal
 abbrev pub invariant-loop-k : goal.invariant-loop-k
 invariant-loop-k l =
     (l.k ≤ l.n) × (l.n ≤ 16) × (l.n ≡ used_of (count_from l.bytes)) × Filled (entry_in l.bytes) l.k l.table
-
-abbrev pub decreases-loop-k : goal.decreases-loop-k
-decreases-loop-k l = l.n - l.k

@@ -2,12 +2,13 @@
 use Prim.Native.Nat.{ℕ, ◌+◌, ◌-◌, ◌*◌, ◌/◌, ◌%◌, ◌≤◌}
 use mathlib.Core.Path.{◌≡◌, refl, sym, ap, ◌∙◌}
 use mathlib.Core.List.{List, [], ◌∷◌}
+use native.Mathlib.Nat.{div-one}
 use native.Mathlib.Omega.{arith}
-use lib.ListN.{length, set, take-append-drop}
+use lib.ListN.{length, take-append-drop}
 use borrow.Rule.Slice.PartMut.{put_mid}
 use Rattle.laws.specs.Over.{over}
 use Rattle.laws.specs.Rows.{rows}
-use Rattle.laws.proofs.OverLaws.{length_over, set_over, over_next, part_over}
+use Rattle.laws.proofs.OverLaws.{length_over, over_next, part_over}
 use Rattle.laws.proofs.RowsLaws.{rows_none, rows_more, length_rows}
 use Rattle.partitions.specs.declared.Entry.{Entry}
 use Rattle.partitions.specs.declared.Settings.{Settings}
@@ -51,15 +52,12 @@ module _ (out₀ : List ℕ) (t : List Entry) where
 
 -- ---- the head
 
-pub head_put : (s : Settings) (out : List ℕ) (x : ℕ) → 2 + 22 * s.count ≤ length out → x ≡ packed head_widths (head_fields s)
-    → over (set (set out 0 (x / 256 % 256)) 1 (x / 1 % 256)) 2 (rows (row_at s.table) s.count) ≡ over out 0 (store_of s)
+pub head_put : (s : Settings) (out : List ℕ) (x : ℕ) {c h ys : List ℕ} → 2 + 22 * s.count ≤ length out → x ≡ packed head_widths (head_fields s)
+    → h ≡ x / 256 % 256 ∷ x % 256 ∷ [] → ys ≡ h → c ≡ put_mid 0 (0 + 2 - 0) out ys
+    → over c 2 (rows (row_at s.table) s.count) ≡ over out 0 (store_of s)
 unfolding store_of bytes_of unpacked octets total
-head_put s out x room e =
+head_put s out x {c} {h} {ys} room e hh hy hc =
     let r = rows (row_at s.table) s.count in
-    let a = x / 256 % 256 in
-    let b = x / 1 % 256 in
     let long : length r ≡ 22 * s.count = length_rows 22 s.count (row_at s.table) (λ j l. length_row s.table j) s.count (omega arith) in
-    let one : set out 0 a ≡ over out 0 (a ∷ []) = set_over out 0 a (omega arith) in
-    let same = length_over out 0 (a ∷ []) (omega arith) in
-    let two : set (over out 0 (a ∷ [])) 1 b ≡ over out 0 (a ∷ b ∷ []) = set_over (over out 0 (a ∷ [])) 1 b (omega arith) ∙ over_next out 0 (a ∷ []) 1 (b ∷ []) refl (omega arith) in
-    rw (one, two, ← e) (over_next out 0 (a ∷ b ∷ []) 2 r refl (omega arith))
+    let two : c ≡ over out 0 (x / 256 % 256 ∷ x % 256 ∷ []) = hc ∙ part_over 0 2 out h ys (ap length hh) (omega arith) hy ∙ ap (over out 0) hh in
+    rw (two, ← e, div-one x) (over_next out 0 (x / 256 % 256 ∷ x % 256 ∷ []) 2 r refl (omega arith))

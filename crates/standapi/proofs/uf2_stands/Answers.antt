@@ -5,4 +5,4 @@ use Rattle.standapi.proofs.uf2_stands.Goals as goal
 pub returns : goal.returns
 returns c =
     let k = c.known_from-known.ensures in
-    stood _ _ _ k.value k.low (answer_is c.stands_known-stand.ensures) c.number.ensures
+    stood _ _ _ k.value k.low (answer_is c.stands_known-told.ensures) c.number.ensures

@@ -2,6 +2,7 @@
 use mathlib.Core.Path.{◌≡◌, refl, sym, ap, ◌∙◌}
 use mathlib.Core.Logic.{◌≢◌}
 use mathlib.Core.List.{List, [], ◌∷◌}
+use Rattle.std.specs.Prelude.{Some, None}
 use Prim.Native.Nat.{ℕ, zero, suc, ◌+◌, ◌*◌, ◌/◌, ◌%◌, ◌^◌, ◌<◌}
 use native.Mathlib.Nat.{mod-eq_of_lt}
 use native.Mathlib.Omega.{arith}
@@ -81,11 +82,11 @@ joined_5 j = rw (← j.number) (packed_lt j.fit)
 
 -- ---- every byte string, and every number
 
-pub read_whole : (b : List ℕ) → length b ≡ 22 → chunks_in b ≡ chunks_of b
+pub read_whole : (b : List ℕ) → length b ≡ 22 → chunks_in b ≡ Some (chunks_of b)
 unfolding chunks_in
 read_whole b e = rw (eq-eqb (length b) 22 e) refl
 
-pub read_other : (b : List ℕ) → length b ≢ 22 → record { h = 0; u = 0; v = 0; w = 0; x = 0; tail = 0 } ≡ chunks_in b
+pub read_other : (b : List ℕ) → length b ≢ 22 → None ≡ chunks_in b
 unfolding chunks_in
 read_other b n = rw (ne_eqb (length b) 22 n) refl
 

@@ -1,13 +1,14 @@
 -- What is written is read back, and bytes of another length are a report that 71 refuses. Assumes nothing.
-use Prim.Native.Nat.{ℕ, ◌+◌, ◌-◌, ◌*◌, ◌≤◌, ◌<◌, ◌^◌}
+use Prim.Native.Nat.{ℕ, ◌+◌, ◌*◌, ◌≤◌, ◌<◌, ◌^◌}
 use mathlib.Core.Path.{◌≡◌, refl, sym, ap, ◌∙◌}
 use mathlib.Core.Logic.{◌≢◌}
 use mathlib.Core.Bool.{false}
 use mathlib.Core.List.{List, ◌++◌}
 use native.Mathlib.Omega.{arith}
+use Rattle.std.specs.Prelude.{Option, Some, None}
 use lib.ListN.{length, get_or, take, drop, take-append-drop}
 use lib.Seq.{length-take-le}
-use borrow.Author.Tests.{lt-ltb, eq-eqb, ne_eqb}
+use borrow.Author.Tests.{eq-eqb, ne_eqb}
 use Rattle.laws.specs.Rows.{rows}
 use Rattle.laws.proofs.BytesLaws.{length_low}
 use Rattle.laws.proofs.RowsLaws.{length_rows, part_rows}
@@ -15,10 +16,9 @@ use Rattle.laws.proofs.TabLaws.{is_tab}
 use Rattle.uf2_block.specs.Block.{field_at}
 use Rattle.uf2_block.specs.Write.{le32}
 use Rattle.uf2_block.proofs.WriteLaws.{field_le32}
-use Rattle.trace_counts.specs.declared.Missing.{Missing}
-use Rattle.trace_counts.specs.declared.Missing.TheVariants as missing
 use Rattle.trace_counts.specs.declared.Report.{Report}
 use Rattle.trace_counts.specs.Counts.{sum_to, good_report}
+use Rattle.trace_layout.proofs.reports.Words.{count_is}
 use Rattle.trace_layout.specs.Reports.{missing_from, count_at, counts_from, fields_from, report_from, flag_of, missing_number, word_of, word_bytes, report_bytes, report_written}
 
 -- every figure of a report is of 32 bits, and it has 16 counts
@@ -59,25 +59,19 @@ module _ (r : Report) (c : Small r) where
       (field_of (rows (word_bytes r) 21) (4 * k) (word_of r k) (omega (arith, length_rows 4 21 (word_bytes r) wide 21 (omega arith)))
       (part_rows 4 21 (word_bytes r) wide 21 k (omega arith) l) h)
 
-  count_is : (j : ℕ) → j < 16 → word_of r (j + 1) ≡ get_or r.counts j 0
-  unfolding word_of
-  count_is j l =
-      let e : j + 1 - 1 ≡ j = omega arith in
-      rw (ne_eqb (j + 1) 0 (λ e. omega (arith, e)), lt-ltb (j + 1) 17 (omega arith), e)
-
   counts_back : counts_from (report_bytes r) ≡ r.counts
   unfolding counts_from
   counts_back =
       sym (is_tab r.counts 16 (count_at (report_bytes r)) c.slots
-      (λ j l. sym (word_back (j + 1) (4 + 4 * j) (omega arith) (omega arith) (rw (count_is j l) (c.counts j l)) ∙ count_is j l)))
+      (λ j l. sym (word_back (j + 1) (4 + 4 * j) (omega arith) (omega arith) (rw (← count_is r j l) (c.counts j l)) ∙ sym (count_is r j l))))
 
-  missing_back : (m : Missing) → missing_from (flag_of m) (missing_number m) ≡ m
-  missing_back missing.None = refl
-  missing_back (missing.Number k) = refl
+  missing_back : (m : Option ℕ) → missing_from (flag_of m) (missing_number m) ≡ m
+  missing_back None = refl
+  missing_back (Some k) = refl
 
-  flag_low : (m : Missing) → flag_of m < 2 ^ 32
-  flag_low missing.None = omega arith
-  flag_low (missing.Number k) = omega arith
+  flag_low : (m : Option ℕ) → flag_of m < 2 ^ 32
+  flag_low None = omega arith
+  flag_low (Some k) = omega arith
 
   -- a report that is written is read back
   pub report_back : report_from (report_bytes r) ≡ r

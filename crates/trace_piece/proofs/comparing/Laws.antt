@@ -3,6 +3,7 @@ use Prim.Native.Nat.{ℕ, ◌-◌}
 use mathlib.Core.Path.{◌≡◌, refl, sym, ap, ◌∙◌}
 use mathlib.Core.Bool.{Bool, true, false, true≢false}
 use mathlib.Core.List.{List}
+use Rattle.std.specs.Prelude.{Result, Ok, Err}
 use native.Mathlib.Omega.{arith}
 use lib.ListN.{length, take, drop, length-drop}
 use lib.Seq.{take_all}
@@ -16,8 +17,8 @@ use Rattle.uf2_receiver.specs.declared.looking.Preview.{Preview}
 use Rattle.uf2_commit.specs.declared.receipts.Receipt.{Receipt}
 use Rattle.uf2_receiver.specs.Looking.{previewed}
 use Rattle.uf2_receiver.specs.Receiver.{world, outcome}
-use Rattle.trace_piece.specs.declared.PieceAnswer.{PieceAnswer}
-use Rattle.trace_piece.specs.declared.PieceAnswer.TheVariants as piece
+use Rattle.trace_piece.specs.declared.PieceError.{PieceError}
+use Rattle.trace_piece.specs.declared.PieceError.TheVariants.{Bad, Differs}
 use Rattle.trace_piece.specs.Piece.{recorded, arrival_in, is_bad, agrees, compared_of, is_replayed}
 use Rattle.trace_piece.proofs.Laws.{good_length}
 use Rattle.trace_piece.specs.Compared.{PieceOutcome, piece_outcome, piece_of}
@@ -29,15 +30,15 @@ module _ (s : Settings) (w : World) (p : List ℕ) where
   abbrev agreed : Bool
   agreed = agrees (recorded p) ours.answer ours.discarded
 
-  bad_is : is_bad p ≡ true → piece_of s w p ≡ piece_outcome piece.Bad w
+  bad_is : is_bad p ≡ true → piece_of s w p ≡ piece_outcome (Err Bad) w
   unfolding piece_of
   bad_is b = rw b
 
-  differs_is : is_bad p ≡ false → agreed ≡ false → piece_of s w p ≡ piece_outcome piece.Differs w
+  differs_is : is_bad p ≡ false → agreed ≡ false → piece_of s w p ≡ piece_outcome (Err Differs) w
   unfolding piece_of
   differs_is g a = rw (g, a)
 
-  replayed_is : is_bad p ≡ false → agreed ≡ true → piece_of s w p ≡ piece_outcome piece.Replayed ours.world
+  replayed_is : is_bad p ≡ false → agreed ≡ true → piece_of s w p ≡ piece_outcome (Ok tt) ours.world
   unfolding piece_of
   replayed_is g a = rw (g, a)
 
@@ -75,7 +76,7 @@ module _ (s : Settings) (w : World) (p : List ℕ) where
   arrival_is : arrival ≡ arrival_in p
   arrival_is = take_all (length p - 1) (drop 1 p) (rw (length-drop 1 p) (omega arith))
 
-  pub judge_bad : is_bad p ≡ true → piece.Bad ≡ (piece_of s w p).answer
+  pub judge_bad : is_bad p ≡ true → Err Bad ≡ (piece_of s w p).answer
   judge_bad b = sym (ap (λ (o : PieceOutcome). o.answer) (bad_is s w p b))
 
   pub judge_compared : is_bad p ≡ false → {x : Preview} → previewed x ≡ look_of s w arrival → compared_of (recorded p) x.answer x.discarded ≡ (piece_of s w p).answer
@@ -87,9 +88,9 @@ module _ (s : Settings) (w : World) (p : List ℕ) where
       (λ a. rw (same ∙ a) (sym (ap (λ (o : PieceOutcome). o.answer) (differs_is s w p g a))))
 
   -- what judge told, and what was taken
-  module _ {x : PieceAnswer} (e : x ≡ (piece_of s w p).answer) where
+  module _ {x : Result (Unit {0}) PieceError} (e : x ≡ (piece_of s w p).answer) where
     pub told_left : is_replayed x ≡ false → piece_outcome x w ≡ piece_of s w p
-    told_left z = ap (λ (x : PieceAnswer). piece_outcome x w) e ∙ piece_left s w p (ap is_replayed (sym e) ∙ z)
+    told_left z = ap (λ (x : Result (Unit {0}) PieceError). piece_outcome x w) e ∙ piece_left s w p (ap is_replayed (sym e) ∙ z)
 
     pub told_long : is_replayed x ≡ true → length p ≡ 513
     told_long y = (piece_taken s w p (ap is_replayed (sym e) ∙ y)).long
@@ -97,5 +98,5 @@ module _ (s : Settings) (w : World) (p : List ℕ) where
     pub told_taken : is_replayed x ≡ true → {r : Receipt} {k : Lent} → outcome r k ≡ receive_of s w arrival → piece_outcome x (world r.transfer k) ≡ piece_of s w p
     told_taken y {r} {k} q =
         ap (λ (o : Outcome). piece_outcome x o.world) (q ∙ ap (receive_of s w) arrival_is)
-        ∙ ap (λ (x : PieceAnswer). piece_outcome x (ours s w p).world) e
+        ∙ ap (λ (x : Result (Unit {0}) PieceError). piece_outcome x (ours s w p).world) e
         ∙ (piece_taken s w p (ap is_replayed (sym e) ∙ y)).is

@@ -5,6 +5,7 @@ use mathlib.Core.Logic.{◌≢◌}
 use mathlib.Core.Bool.{true, false}
 use mathlib.Core.List.{List, [], ◌∷◌, ◌++◌, map, map-append}
 use native.Mathlib.Nat.{add-zero}
+use Rattle.std.specs.Prelude.{Option, Some, None, Ok, Err}
 use native.Mathlib.Omega.{arith}
 use lib.Dec.{leb, eqb}
 use lib.ListN.{length, get_or, drop, length-append, length-take, length-drop}
@@ -29,14 +30,14 @@ use Rattle.arrival_claims.proofs.Bounds.{refusals_change_nothing}
 use Rattle.arrival_claims.proofs.Tally.{count_is_marks}
 use Rattle.uf2_receiver.specs.Receiver.{world}
 use Rattle.trace_piece.specs.declared.Stop.{Stop}
-use Rattle.trace_piece.specs.declared.Stop.TheVariants.{None, Bad, Differs}
+use Rattle.trace_piece.specs.declared.Stop.TheVariants.{Bad, Differs}
 use Rattle.trace_counts.specs.declared.Report.{Report}
 use Rattle.trace_counts.specs.Counts.{sum_to, good_report, with_room, how_many_yes, recorded_at, tally_to, with_tally, ended_of}
 use Rattle.trace_replay.specs.Replay.{TraceOutcome, trace_outcome, begun, replay_of, before_stop, TallyOutcome, tally_outcome, with_counts}
 use Rattle.trace_report.specs.Pieces.{piece_at, arrival_at, arrivals_to, records_before}
 use Rattle.trace_report.specs.Claims.{after, IsOurs, EndsBeforeTheStop}
 use Rattle.trace_report.proofs.Replays.{ends_before_the_stop}
-use Rattle.trace_report.specs.declared.adding.FiguresAnswer.TheVariants.{BadReport, TooMany, Replayed}
+use Rattle.trace_counts.specs.declared.ReportError.TheVariants.{BadReport, TooMany}
 use Rattle.trace_report.specs.Report.{replayed_in, added_to, FiguresOutcome, figures_outcome, add_of}
 use Rattle.trace_report.specs.Counting.{tallied_by, replayed_by}
 use Rattle.trace_report.proofs.adding.Counted.{numbers_to, discards_to, Countable, counted_of, zeros, tally_is}
@@ -79,10 +80,10 @@ unfolding arrivals_to
 length_arrivals t zero = refl
 length_arrivals t (suc n) = rw (length-append (arrivals_to t n) (arrival_at t n ∷ []), length_arrivals t n) (omega arith)
 
-before_is : (t : List ℕ) (x : Stop) → before_stop (length t / 513) x ≡ records_before t x
+before_is : (t : List ℕ) (x : Option Stop) → before_stop (length t / 513) x ≡ records_before t x
 before_is t None = refl
-before_is t (Bad i) = refl
-before_is t (Differs i) = refl
+before_is t (Some (Bad i)) = refl
+before_is t (Some (Differs i)) = refl
 
 -- ---- records of ours
 
@@ -183,11 +184,11 @@ replay_count s h t =
 -- ---- a call
 
 module _ (r : Report) (s : Settings) (h : Lent) (t : List ℕ) where
-  pub add_bad : good_report r ≡ false → figures_outcome BadReport r h ≡ add_of r s h t
+  pub add_bad : good_report r ≡ false → figures_outcome (Err BadReport) r h ≡ add_of r s h t
   unfolding add_of
   add_bad g = rw g
 
-  pub add_many : good_report r ≡ true → with_room r (length t / 513) ≡ false → figures_outcome TooMany r h ≡ add_of r s h t
+  pub add_many : good_report r ≡ true → with_room r (length t / 513) ≡ false → figures_outcome (Err TooMany) r h ≡ add_of r s h t
   unfolding add_of
   add_many g m = rw (g, m)
 
@@ -206,7 +207,7 @@ module _ (r : Report) (s : Settings) (h : Lent) (t : List ℕ) where
 
 -- ---- a trace that is replayed, as the code comes to it
 
-module _ (r : Report) (s : Settings) (h : Lent) (t : List ℕ) {x : Stop} {u : Transfer} {k : Lent} {l : List ℕ} (e : tally_outcome (trace_outcome x (world u k)) l ≡ with_counts zeros t (replay_of s h t)) where
+module _ (r : Report) (s : Settings) (h : Lent) (t : List ℕ) {x : Option Stop} {u : Transfer} {k : Lent} {l : List ℕ} (e : tally_outcome (trace_outcome x (world u k)) l ≡ with_counts zeros t (replay_of s h t)) where
   alone : trace_outcome x (world u k) ≡ replay_of s h t
   unfolding with_counts
   alone = ap (λ (o : TallyOutcome). o.outcome) e
@@ -216,10 +217,10 @@ module _ (r : Report) (s : Settings) (h : Lent) (t : List ℕ) {x : Stop} {u : T
 
   counts_alone : l ≡ tally_to zeros t (before_stop (length t / 513) x)
   unfolding with_counts
-  counts_alone = ap (λ (o : TallyOutcome). o.tally) e ∙ ap (λ (y : Stop). tally_to zeros t (before_stop (length t / 513) y)) (sym stop_alone)
+  counts_alone = ap (λ (o : TallyOutcome). o.tally) e ∙ ap (λ (y : Option Stop). tally_to zeros t (before_stop (length t / 513) y)) (sym stop_alone)
 
-  pub replayed_is : {n : ℕ} {c d : Report} → n ≡ before_stop (length t / 513) x → c ≡ with_tally r l n → d ≡ ended_of c u.state k.seen → figures_outcome (Replayed x) d k ≡ replayed_by r s h t
+  pub replayed_is : {n : ℕ} {c d : Report} → n ≡ before_stop (length t / 513) x → c ≡ with_tally r l n → d ≡ ended_of c u.state k.seen → figures_outcome (Ok x) d k ≡ replayed_by r s h t
   unfolding replayed_by tallied_by
   replayed_is hn hc hd =
       rw (hd, hc, counts_alone, hn)
-      (ap (λ (o : TraceOutcome). figures_outcome (Replayed o.stop) (ended_of (with_tally r (tally_to zeros t (before_stop (length t / 513) o.stop)) (before_stop (length t / 513) o.stop)) o.world.transfer o.world.seen) (lent_of o.world)) alone)
+      (ap (λ (o : TraceOutcome). figures_outcome (Ok o.stop) (ended_of (with_tally r (tally_to zeros t (before_stop (length t / 513) o.stop)) (before_stop (length t / 513) o.stop)) o.world.transfer o.world.seen) (lent_of o.world)) alone)

@@ -1,4 +1,4 @@
-use Prim.Native.Nat.{◌≤◌, ◌-◌, ◌*◌}
+use Prim.Native.Nat.{◌-◌, ◌*◌}
 use mathlib.Core.Path.{◌≡◌}
 use lib.ListN.{length, drop}
 use Rattle.uf2_receiver.specs.Receiver.{lent, world}
@@ -9,12 +9,7 @@ use Rattle.uf2_batch.proofs.take_all.Given as goal
 
 abbrev pub invariant-loop-i : goal.invariant-loop-i
 invariant-loop-i l =
-    (l.i ≤ l.n)
-    × (length l.results ≡ length l.initial.results)
+    (length l.results ≡ length l.initial.results)
     × Stays l.settings (lent l.initial.flash l.initial.seen l.initial.sectors l.initial.main l.initial.xip) l.first.right l.first.good (lent l.flash l.seen l.sectors l.main l.xip)
     × Knows l.settings (length l.flash) l.kept
     × (end_from l.n l.settings (world l.next (lent l.flash l.seen l.sectors l.main l.xip)) l.accepted l.results l.i (arrivals_of (l.n - l.i) (drop (l.i * 512) l.arrivals)) ≡ batch_of l.settings (world l.initial.next (lent l.initial.flash l.initial.seen l.initial.sectors l.initial.main l.initial.xip)) l.arrivals l.initial.results)
-
-abbrev pub decreases-loop-i : goal.decreases-loop-i
-decreases-loop-i l =
-    l.n - l.i

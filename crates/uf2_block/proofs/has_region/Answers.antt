@@ -1,4 +1,6 @@
+use mathlib.Core.Path.{◌∙◌}
+use Rattle.laws.proofs.Masks.{mask_bit}
 use Rattle.uf2_block.proofs.has_region.Goals as goal
 
 pub returns : goal.returns
-returns c = simp c.field.ensures
+returns c = mask_bit _ 14 ∙ simp c.field.ensures

@@ -1,5 +1,5 @@
 -- A region that counts and one that the flash has, as facts. Assumes nothing.
-use mathlib.Core.Path.{◌≡◌, sym, ap, ◌∙◌}
+use mathlib.Core.Path.{◌≡◌, refl, sym, ap, ◌∙◌}
 use mathlib.Core.Bool.{Bool, true, false, not, ◌&&◌}
 use mathlib.Core.List.{List}
 use mathlib.Core.Logic.{◌≢◌}
@@ -104,6 +104,20 @@ module _ (flash : List ℕ) (start : ℕ) (g : Region) where
   unfolding stands_in
   stands_true e =
       and_right (leb 0x10000000 g.start && leb (from_of start g + g.len) (length flash)) (same_digest (md5_of (part_of flash start g)) g) e
+
+-- the four words compared, as a derived `==` has them
+pub digest_same : (x : Digest) (g : Region) → eqb x.a g.a && (eqb x.b g.b && (eqb x.c g.c && eqb x.d g.d)) ≡ same_digest x g
+unfolding same_digest
+digest_same x g =
+    let a = eqb x.a g.a in
+    let b = eqb x.b g.b in
+    let c = eqb x.c g.c in
+    let d = eqb x.d g.d in
+    ap (λ (y : Bool). a && y) (assoc b c d) ∙ assoc a (b && c) d ∙ ap (λ (y : Bool). y && d) (assoc a b c)
+  where
+    assoc : (a b c : Bool) → a && (b && c) ≡ a && b && c
+    assoc true b c = refl
+    assoc false b c = refl
 
 -- the digest that a region names
 abbrev pub named_by : Region → Digest

@@ -1,13 +1,15 @@
 -- Fields that are written, and read back. Assumes nothing.
-use Prim.Native.Nat.{ℕ, ◌+◌, ◌/◌, ◌%◌, ◌<◌, ◌≤◌, ◌^◌}
+use Prim.Native.Nat.{ℕ, ◌+◌, ◌-◌, ◌<◌, ◌≤◌, ◌^◌}
 use mathlib.Core.Path.{◌≡◌, refl, sym, ap, ◌∙◌}
 use mathlib.Core.List.{List, [], ◌∷◌, ◌++◌}
 use native.Mathlib.Omega.{arith}
 use lib.ListN.{length, set, length-append}
 use borrow.Author.Tests.{le-leb, lt-leb}
+use borrow.Rule.Slice.PartMut.{put_mid}
+use Rattle.std.specs.Int.{w32, to_le_bytes}
 use Rattle.laws.specs.Over.{over}
-use Rattle.laws.proofs.BytesLaws.{length_low, number_back, low_four}
-use Rattle.laws.proofs.OverLaws.{length_over, set_over, over_next}
+use Rattle.laws.proofs.BytesLaws.{length_low, number_back, write_four}
+use Rattle.laws.proofs.OverLaws.{length_over, set_over, over_next, part_over}
 use Rattle.uf2_block.specs.Field.{field_at}
 use Rattle.uf2_block.specs.WordsWrite.{le32, put_at}
 use Rattle.uf2_block.proofs.words.Laws.{field_number}
@@ -29,15 +31,9 @@ set_next d at s k x e l =
     let same = length_over d at s fits in
     set_over (over d at s) k x (omega arith) ∙ over_next d at s k (x ∷ []) e (omega arith)
 
-four_set : (b : List ℕ) (at p q r s : ℕ) → at + 4 ≤ length b → set (set (set (set b at p) (at + 1) q) (at + 2) r) (at + 3) s ≡ over b at (p ∷ q ∷ r ∷ s ∷ [])
-four_set b at p q r s l =
-    let one : set b at p ≡ over b at (p ∷ []) = set_over b at p (omega arith) in
-    let two : set (over b at (p ∷ [])) (at + 1) q ≡ over b at (p ∷ q ∷ []) = set_next b at (p ∷ []) (at + 1) q refl (omega arith) in
-    let three : set (over b at (p ∷ q ∷ [])) (at + 2) r ≡ over b at (p ∷ q ∷ r ∷ []) = set_next b at (p ∷ q ∷ []) (at + 2) r refl (omega arith) in
-    rw (one, two, three) (set_next b at (p ∷ q ∷ r ∷ []) (at + 3) s refl (omega arith))
-
-pub put_set : (b : List ℕ) (at x : ℕ) → at + 4 ≤ length b → set (set (set (set b at (x % 256)) (at + 1) (x / 256 % 256)) (at + 2) (x / 65536 % 256)) (at + 3) (x / 16777216 % 256) ≡ put_at b at x
-put_set b at x l = four_set b at _ _ _ _ l ∙ ap (over b at) (sym (low_four x)) ∙ sym (put_over b at x l)
+-- four bytes that a part of four was made
+pub put_part : (b : List ℕ) (at x : ℕ) {ys : List ℕ} → at + 4 ≤ length b → ys ≡ to_le_bytes w32 x → put_mid at (at + 4 - at) b ys ≡ put_at b at x
+put_part b at x {ys} l e = part_over at 4 b (le32 x) ys (length_low 4 x) l (e ∙ write_four x) ∙ sym (put_over b at x l)
 
 -- a field right after what is written already
 pub put_after : (b s : List ℕ) (k x : ℕ) → length s ≡ k → k + 4 ≤ length b → put_at (over b 0 s) k x ≡ over b 0 (s ++ le32 x)

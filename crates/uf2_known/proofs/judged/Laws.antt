@@ -3,6 +3,7 @@ use Prim.Native.Nat.{ℕ}
 use mathlib.Core.Path.{◌≡◌, ap, sym}
 use lib.Dec.{eqb}
 use borrow.Author.Tests.{eqb-true}
+use Rattle.std.specs.Prelude.{Option}
 use Rattle.laws.proofs.Tests.{split}
 use Rattle.partitions.specs.declared.Settings.{Settings}
 use Rattle.placement.specs.declared.Place.{Place}
@@ -17,7 +18,7 @@ next_is s len g f =
     (λ z. rw z)
 
 -- the rooms of the next, made anew from their fields
-pub next_made : (b : FamilyRooms) (s : Settings) (len f : ℕ) {p : Place} {x : Rooms} → p ≡ x.flash → x ≡ (rooms_next b s len f).rooms
+pub next_made : (b : FamilyRooms) (s : Settings) (len f : ℕ) {p : Option Place} {x : Rooms} → p ≡ x.flash → x ≡ (rooms_next b s len f).rooms
     → record { family = f; rooms = record { flash = p; ram = x.ram } } ≡ rooms_next b s len f
 next_made b s len f {p} {x} e m =
     split (eqb b.family f)

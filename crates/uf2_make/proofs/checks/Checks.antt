@@ -7,8 +7,9 @@ use native.Mathlib.Omega.{arith}
 use lib.Dec.{eqb, ltb, leb}
 use borrow.Author.Tests.{lt-ltb, le-ltb, eqb-true, eqb-false, ltb-false, leb-false}
 use Rattle.laws.proofs.Tests.{or_left, or_right}
-use Rattle.uf2_make.specs.declared.checks.MakeAnswer.{MakeAnswer}
-use Rattle.uf2_make.specs.declared.checks.MakeAnswer.TheVariants.{BadImage, BadStart, PastWindow, ShortOutput, Made}
+use Rattle.std.specs.Prelude.{Result, Ok, Err}
+use Rattle.uf2_make.specs.declared.checks.MakeError.{MakeError}
+use Rattle.uf2_make.specs.declared.checks.MakeError.TheVariants.{BadImage, BadStart, PastWindow, ShortOutput}
 use Rattle.uf2_make.specs.Uf2check.{bad_image, bad_start, check_of}
 
 -- a start that is not refused is below the window's end
@@ -18,26 +19,26 @@ start_low start e =
     (or_left (leb 0x12000000 start) (not (eqb (start % 256) 0)) (or_right (ltb start 0x10000000) (leb 0x12000000 start || not (eqb (start % 256) 0)) e))
 
 module _ (n start room : ℕ) where
-  pub image_bad : bad_image n ≡ true → BadImage ≡ check_of n start room
+  pub image_bad : bad_image n ≡ true → Err BadImage ≡ check_of n start room
   unfolding check_of
   image_bad h = rw h
 
   module _ (p : bad_image n ≡ false) where
-    pub start_bad : bad_start start ≡ true → BadStart ≡ check_of n start room
+    pub start_bad : bad_start start ≡ true → Err BadStart ≡ check_of n start room
     unfolding check_of
     start_bad h = rw (p, h)
 
     module _ (q : bad_start start ≡ false) where
-      pub past : 0x12000000 < start + n → PastWindow ≡ check_of n start room
+      pub past : 0x12000000 < start + n → Err PastWindow ≡ check_of n start room
       unfolding check_of
       past h = rw (p, q, lt-ltb 0x12000000 (start + n) h)
 
       module _ (u : start + n ≤ 0x12000000) where
-        pub short : room < 512 * (n / 256) → ShortOutput ≡ check_of n start room
+        pub short : room < 512 * (n / 256) → Err ShortOutput ≡ check_of n start room
         unfolding check_of
         short h = rw (p, q, le-ltb 0x12000000 (start + n) u, lt-ltb room (512 * (n / 256)) h)
 
-        pub passes : 512 * (n / 256) ≤ room → {m : ℕ} → m ≡ n / 256 → Made m ≡ check_of n start room
+        pub passes : 512 * (n / 256) ≤ room → {m : ℕ} → m ≡ n / 256 → Ok m ≡ check_of n start room
         unfolding check_of
         passes h {m} e = rw (p, q, le-ltb 0x12000000 (start + n) u, le-ltb room (512 * (n / 256)) h, e)
 
@@ -50,35 +51,20 @@ pub record Right (n start room m : ℕ) : Type 0 where
   pub window : start + 256 * m ≤ 0x12000000
   pub space : 512 * m ≤ room
 
--- the number of blocks, and 0 of a refusal
-abbrev blocks : MakeAnswer → ℕ
-blocks BadImage = 0
-blocks BadStart = 0
-blocks PastWindow = 0
-blocks ShortOutput = 0
-blocks (Made m) = m
-
-abbrev is_made : MakeAnswer → Bool
-is_made BadImage = false
-is_made BadStart = false
-is_made PastWindow = false
-is_made ShortOutput = false
-is_made (Made m) = true
-
 -- no test but the last branch makes a file
-made_tests : (a b c d : Bool) (k m : ℕ) → cond a BadImage (cond b BadStart (cond c PastWindow (cond d ShortOutput (Made k)))) ≡ Made m
+made_tests : (a b c d : Bool) (k m : ℕ) → cond a (Err BadImage) (cond b (Err BadStart) (cond c (Err PastWindow) (cond d (Err ShortOutput) (Ok k)))) ≡ Ok m
     → (a ≡ false) × (b ≡ false) × (c ≡ false) × (d ≡ false) × (k ≡ m)
-made_tests true b c d k m e = absurd (true≢false (ap is_made (sym e)))
-made_tests false true c d k m e = absurd (true≢false (ap is_made (sym e)))
-made_tests false false true d k m e = absurd (true≢false (ap is_made (sym e)))
-made_tests false false false true k m e = absurd (true≢false (ap is_made (sym e)))
-made_tests false false false false k m e = (refl, refl, refl, refl, ap blocks e)
+made_tests true b c d k m e = cc
+made_tests false true c d k m e = cc
+made_tests false false true d k m e = cc
+made_tests false false false true k m e = cc
+made_tests false false false false k m e = (refl, refl, refl, refl, cc)
 
 not_false : (b : Bool) → not b ≡ false → b ≡ true
 not_false true e = refl
 not_false false e = absurd (true≢false e)
 
-pub made_right : (n start room m : ℕ) → check_of n start room ≡ Made m → Right n start room m
+pub made_right : (n start room m : ℕ) → check_of n start room ≡ Ok m → Right n start room m
 unfolding check_of
 made_right n start room m e =
     let f = made_tests (eqb n 0 || not (eqb (n % 256) 0)) (ltb start 0x10000000 || (leb 0x12000000 start || not (eqb (start % 256) 0))) (ltb 0x12000000 (start + n)) (ltb room (512 * (n / 256))) (n / 256) m e in

@@ -21,7 +21,7 @@ use Rattle.uf2_block.proofs.WriteLaws as fields
 use Rattle.uf2_make.specs.Uf2lead.{first_over, last_over}
 use Rattle.uf2_make.specs.Uf2block.{lead_bytes, block_bytes, block_over}
 
-lead_put : (b : List ℕ) (a n t f : ℕ) → length b ≡ 512 → last_over (first_over b a) n t f ≡ over b 0 (lead_bytes a n t f)
+lead_put : (b : List ℕ) (a n t f : ℕ) → length b ≡ 512 → last_over (first_over b 0x2000 a) n t f ≡ over b 0 (lead_bytes a n t f)
 unfolding low_first lead_bytes first_over last_over
 lead_put b a n t f e =
     rw (
@@ -54,16 +54,16 @@ unfolding block_bytes
 length_block a n t f page h =
     omega (arith, length-append ((lead_bytes a n t f ++ page) ++ many 220 0) (le32 0x0AB16F30), length_data a n t f page h, length_low 4 0x0AB16F30)
 
-pub block_put : (b : List ℕ) (a n t f : ℕ) (page : List ℕ) {x c d e g ys zs : List ℕ} → length b ≡ 512 → length page ≡ 256
-    → x ≡ first_over b a → c ≡ last_over x n t f
+pub block_put : (b : List ℕ) (a n t f : ℕ) (page : List ℕ) {c d e g ys zs : List ℕ} → length b ≡ 512 → length page ≡ 256
+    → c ≡ last_over (first_over b 0x2000 a) n t f
     → ys ≡ page → d ≡ put_mid 32 (32 + 256 - 32) c ys
     → zs ≡ many (length (take (288 + 220 - 288) (drop 288 d))) 0 → e ≡ put_mid 288 (288 + 220 - 288) d zs
     → g ≡ put_at e 508 0x0AB16F30 → g ≡ block_bytes a n t f page
 unfolding block_bytes
-block_put b a n t f page {x} {c} {d} {e} {g} {ys} {zs} hb hp hx hl hy hd hz he hg =
+block_put b a n t f page {c} {d} {e} {g} {ys} {zs} hb hp hl hy hd hz he hg =
     let lead = lead_bytes a n t f in
     let l = length_lead a n t f in
-    let hc : c ≡ over b 0 lead = hl ∙ rw hx (lead_put b a n t f hb) in
+    let hc : c ≡ over b 0 lead = hl ∙ lead_put b a n t f hb in
     let lc : length c ≡ 512 = ap length hc ∙ length_over b 0 lead (omega (arith, l)) ∙ hb in
     let d2 : d ≡ over b 0 (lead ++ page) =
     hd ∙ part_over 32 256 c page ys hp (omega arith) hy ∙ rw hc (piece b lead page 32 256 l hp (omega arith)) in

@@ -18,14 +18,14 @@ use Rattle.md5_digest.specs.Md5.{digest_bytes}
 use Rattle.md5_digest.specs.declared.Digest.{Digest}
 use Rattle.uf2_block.specs.Digests.{with_digest}
 use Rattle.uf2_block.proofs.digest_bytes.Laws.{digest_put}
-use Rattle.uf2_make.specs.Uf2lead.{last_over}
+use Rattle.uf2_make.specs.Uf2lead.{first_over, last_over}
 use Rattle.uf2_make_regions.specs.Block.{lead_bytes, region_bytes, block_bytes}
 
 -- ---- the fields before the data
 
 pub lead_put : (b : List ℕ) (a n t f : ℕ) → length b ≡ 512
-    → last_over (put_at (put_at (put_at (put_at b 0 0x0A324655) 4 0x9E5D5157) 8 0x6000) 12 a) n t f ≡ over b 0 (lead_bytes a n t f)
-unfolding low_first lead_bytes last_over
+    → last_over (first_over b 0x6000 a) n t f ≡ over b 0 (lead_bytes a n t f)
+unfolding low_first lead_bytes first_over last_over
 lead_put b a n t f e =
     rw (
       fields.put_over b 0 0x0A324655 (omega arith),

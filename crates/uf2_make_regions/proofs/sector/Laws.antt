@@ -1,8 +1,9 @@
 -- A sector's final bytes: as the code places them, and byte by byte. Assumes nothing.
-use Prim.Native.Nat.{ℕ, ◌+◌, ◌-◌, ◌<◌, ◌≤◌}
+use Prim.Native.Nat.{ℕ, ◌+◌, ◌-◌, ◌<◌, ◌≤◌, min}
 use mathlib.Core.Path.{◌≡◌, refl, sym, ap, ◌∙◌}
 use mathlib.Core.List.{List, ◌++◌}
 use native.Mathlib.Omega.{arith}
+use Rattle.std.proofs.lemmas.List.{take_min}
 use lib.Dec.{leb}
 use lib.ListN.{length, get_or, take, drop, replicate, length-take, length-drop}
 use lib.Seq.{take_all, ext_get_or, get_or-take, get_or-drop, length-take-le}
@@ -47,18 +48,14 @@ module _ (image : List ℕ) (at from count : ℕ) (room : at + count ≤ 4096) (
 -- ---- the part that the image has of it
 
 module _ (image : List ℕ) (start base : ℕ) {at from : ℕ} (ha : at ≡ start - base) (hf : from ≡ base - start) {x : Digest} where
-  -- as much as there is room for
-  pub by_room : x ≡ md5_of (over (many 4096 255) at (take (4096 - at) (drop from image))) → x ≡ sector_digest image start base
+  -- as much as there is room for, or all that is left
+  pub by_least : {n : ℕ} → n ≡ min (4096 - at) (length image - from) → x ≡ md5_of (over (many 4096 255) at (take n (drop from image))) → x ≡ sector_digest image start base
   unfolding sector_of
-  by_room e = e ∙ rw (ha, hf) refl
-
-  -- all that is left, where there is room for more
-  pub by_rest : x ≡ md5_of (over (many 4096 255) at (take (length image - from) (drop from image))) → length image - from ≤ 4096 - at → x ≡ sector_digest image start base
-  by_rest e l =
+  by_least {n} h e =
       let m = length-drop from image in
-      let same : take (length image - from) (drop from image) ≡ take (4096 - at) (drop from image) =
-      take_all (length image - from) (drop from image) (omega (arith, m)) ∙ sym (take_all (4096 - at) (drop from image) (omega (arith, m))) in
-      by_room (e ∙ ap (λ (p : List ℕ). md5_of (over (many 4096 255) at p)) same)
+      let same : take n (drop from image) ≡ take (4096 - at) (drop from image) =
+      rw (h, ← m) (take_min (4096 - at) (drop from image)) in
+      e ∙ ap (λ (p : List ℕ). md5_of (over (many 4096 255) at p)) same ∙ rw (ha, hf) refl
 
 -- ---- byte by byte
 

@@ -12,7 +12,8 @@ use Rattle.laws.specs.Bytes.{number_in}
 use Rattle.uf2_block.specs.Block.{field_at, has_flag, is_block}
 use Rattle.uf2_block.proofs.Laws.{field_in_lem}
 use Rattle.uf2_tags.specs.declared.one_tag.Tag.{Tag}
-use Rattle.uf2_tags.specs.declared.one_tag.Answer.TheVariants.{Tag as a-tag, End, BadLength, BadPlace, NotBlock, BadPayload, ShortTag, TypedEnd, PastRoom, NoRoom}
+use Rattle.std.specs.Prelude.{Ok, Some, None, Err}
+use Rattle.uf2_tags.specs.declared.one_tag.TagError.TheVariants.{BadLength, BadPlace, NotBlock, BadPayload, ShortTag, TypedEnd, PastRoom, NoRoom}
 use Rattle.uf2_tags.specs.Tag.{tag_of, sized}
 use Rattle.uf2_tags.proofs.one_tag.Laws.{past, tag_same}
 use Rattle.uf2_tags.specs.Room.{first_place, kind_at, room_end, bad_payload, bad_place, stands_at, tag_at}
@@ -50,13 +51,13 @@ module _ (b : List ℕ) (at : ℕ) (h : at + 4 ≤ length b) (low : get_or b at 
   head_kind = omega (arith, field_in_lem b at h, kind_three b at)
 
 module _ (b : List ℕ) where
-  pub room_md5 : field_at b 8 / 0x4000 % 2 ≡ 1 → 484 ≡ room_end b
+  pub room_md5 : has_flag b 0x4000 ≡ true → 484 ≡ room_end b
   unfolding room_end
-  room_md5 h = rw (eq-eqb (field_at b 8 / 0x4000 % 2) 1 h) refl
+  room_md5 h = rw h
 
-  pub room_whole : (field_at b 8 / 0x4000 % 2 ≡ 1 → ⊥) → 508 ≡ room_end b
+  pub room_whole : has_flag b 0x4000 ≡ false → 508 ≡ room_end b
   unfolding room_end
-  room_whole h = rw (ne_eqb (field_at b 8 / 0x4000 % 2) 1 h) refl
+  room_whole h = rw h
 
 -- the room ends at 484 or at 508
 pub record RoomEnd (b : List ℕ) : Type 0 where
@@ -81,22 +82,22 @@ pub place_test_lem : (at : ℕ) {n m : ℕ} {r v : Bool} → n ≡ m → r ≡ b
 place_test_lem at e h w = sym (h ∙ ap (λ (k : ℕ). bad_place k at) e) ∙ w
 
 module _ (b : List ℕ) (at : ℕ) where
-  pub at_length : (length b ≡ 512 → ⊥) → BadLength ≡ tag_at b at
+  pub at_length : (length b ≡ 512 → ⊥) → Err BadLength ≡ tag_at b at
   unfolding tag_at
   at_length h = rw (ne_eqb (length b) 512 h) refl
 
   module _ (p : length b ≡ 512) where
-    pub at_other : is_block b ≡ false → NotBlock ≡ tag_at b at
+    pub at_other : is_block b ≡ false → Err NotBlock ≡ tag_at b at
     unfolding tag_at
     at_other h = rw (eq-eqb (length b) 512 p, h) refl
 
     module _ (q : is_block b ≡ true) where
-      pub at_clear : (field_at b 8 / 0x8000 % 2 ≡ 1 → ⊥) → End ≡ tag_at b at
+      pub at_clear : (field_at b 8 / 0x8000 % 2 ≡ 1 → ⊥) → Ok None ≡ tag_at b at
       unfolding tag_at
       at_clear h = rw (eq-eqb (length b) 512 p, q, ne_eqb (field_at b 8 / 0x8000 % 2) 1 h) refl
 
       module _ (f : field_at b 8 / 0x8000 % 2 ≡ 1) where
-        pub at_payload : bad_payload (field_at b 16) ≡ true → BadPayload ≡ tag_at b at
+        pub at_payload : bad_payload (field_at b 16) ≡ true → Err BadPayload ≡ tag_at b at
         unfolding tag_at
         at_payload h = rw (eq-eqb (length b) 512 p, q, eq-eqb (field_at b 8 / 0x8000 % 2) 1 f, h) refl
 
@@ -106,11 +107,11 @@ module _ (b : List ℕ) (at : ℕ) where
 
 -- by the check of the place that decides
 module _ (b : List ℕ) (at : ℕ) where
-  pub stands_place : bad_place (first_place b) at ≡ true → BadPlace ≡ stands_at b at
+  pub stands_place : bad_place (first_place b) at ≡ true → Err BadPlace ≡ stands_at b at
   stands_place h = rw h refl
 
   module _ (s : bad_place (first_place b) at ≡ false) where
-    pub stands_none : room_end b < at + 4 → NoRoom ≡ stands_at b at
+    pub stands_none : room_end b < at + 4 → Err NoRoom ≡ stands_at b at
     stands_none h = rw (s, lt-ltb (room_end b) (at + 4) h) refl
 
     pub stands_tag : at + 4 ≤ room_end b → sized (get_or b at 0) (kind_at b at) at (room_end b) ≡ stands_at b at
@@ -136,21 +137,21 @@ pub record TagHere (b : List ℕ) (at : ℕ) (t : Tag) : Type 0 where
   pub fits : at + get_or b at 0 ≤ room_end b
   pub tag : tag_of (get_or b at 0) (kind_at b at) at ≡ t
 
-pub tag_here : (b : List ℕ) (at : ℕ) (t : Tag) → tag_at b at ≡ a-tag t → TagHere b at t
+pub tag_here : (b : List ℕ) (at : ℕ) (t : Tag) → tag_at b at ≡ Ok (Some t) → TagHere b at t
 unfolding tag_at sized bad_payload bad_place
 tag_here b at t e =
     let size = get_or b at 0 in
     let kind = kind_at b at in
-    let p1 = past (not (eqb (length b) 512)) BadLength _ t refl e in
-    let p2 = past (not (is_block b)) NotBlock _ t refl p1.1 in
-    let p3 = past (not (has_flag b 0x8000)) End _ t refl p2.1 in
-    let p4 = past (bad_payload (field_at b 16)) BadPayload _ t refl p3.1 in
-    let p5 = past (bad_place (first_place b) at) BadPlace _ t refl p4.1 in
-    let p6 = past (ltb (room_end b) (at + 4)) NoRoom _ t refl p5.1 in
-    let q1 = past (eqb size 0 && eqb kind 0) End _ t refl p6.1 in
-    let q2 = past (leb 1 size && leb size 3) ShortTag _ t refl q1.1 in
-    let q3 = past (eqb size 0) TypedEnd _ t refl q2.1 in
-    let q4 = past (ltb (room_end b) (at + size)) PastRoom _ t refl q3.1 in
+    let p1 = past (not (eqb (length b) 512)) (Err BadLength) _ t refl e in
+    let p2 = past (not (is_block b)) (Err NotBlock) _ t refl p1.1 in
+    let p3 = past (not (has_flag b 0x8000)) (Ok None) _ t refl p2.1 in
+    let p4 = past (bad_payload (field_at b 16)) (Err BadPayload) _ t refl p3.1 in
+    let p5 = past (bad_place (first_place b) at) (Err BadPlace) _ t refl p4.1 in
+    let p6 = past (ltb (room_end b) (at + 4)) (Err NoRoom) _ t refl p5.1 in
+    let q1 = past (eqb size 0 && eqb kind 0) (Ok None) _ t refl p6.1 in
+    let q2 = past (leb 1 size && leb size 3) (Err ShortTag) _ t refl q1.1 in
+    let q3 = past (eqb size 0) (Err TypedEnd) _ t refl q2.1 in
+    let q4 = past (ltb (room_end b) (at + size)) (Err PastRoom) _ t refl q3.1 in
     record {
       carries =
           record {

@@ -1,4 +1,3 @@
-use Prim.Native.Nat.{◌≤◌, ◌-◌}
 use mathlib.Core.Path.{◌≡◌}
 use mathlib.Core.Bool.{not}
 use Rattle.laws.specs.Sets.{any}
@@ -6,7 +5,4 @@ use Rattle.uf2_verify.specs.Stands.{differ_at}
 use Rattle.uf2_verify.proofs.same_page.Given as goal
 
 abbrev pub invariant-loop-i : goal.invariant-loop-i
-invariant-loop-i l = (l.i ≤ 256) × (l.same ≡ not (any l.i (differ_at l.a l.b)))
-
-abbrev pub decreases-loop-i : goal.decreases-loop-i
-decreases-loop-i l = 256 - l.i
+invariant-loop-i l = l.same ≡ not (any l.i (differ_at l.a l.b))

@@ -5,7 +5,7 @@ use Prim.Native.Nat.{ℕ, ◌+◌, ◌%◌}
 use native.Mathlib.Omega.{arith}
 use lib.ListN.{length, length-append}
 use Rattle.laws.specs.Stores.{Store}
-use Rattle.ihex_record.specs.Types.{block_start, extended_linear}
+use Rattle.ihex_record.specs.Types.{block_start}
 use Rattle.ihex_record.specs.Write.{record_line}
 use Rattle.ihex_write.specs.Put.{put_line, put_lines}
 use Rattle.ihex_write.proofs.Line.{length_line}
@@ -14,6 +14,7 @@ use Rattle.ihex_data.specs.declared.Body.{Body}
 use Rattle.ihex_data.specs.Pieces.{pieces_of}
 use Rattle.ihex_data.specs.Lines.{word_bytes, upper_line, data_lines, data_length}
 use Rattle.ihex_data.specs.Scan.{body_of}
+use Rattle.ihex_data.proofs.Tallied.{length_upper}
 use Rattle.ihex_data.proofs.Length.{length_data_lines, length_even}
 use Rattle.ihex_write.specs.Fill.{missing, fill_lines}
 use Rattle.ihex_write.proofs.filling.Filled.{length_fill}
@@ -30,14 +31,11 @@ module _ (board kind u : ℕ) (ss : List Store) where
   length_name : length name_line ≡ 16
   length_name = length_line block_start 0 (word_bytes board)
 
-  length_upper : length (upper_line u) ≡ 16
-  length_upper = length_line extended_linear 0 (word_bytes u)
-
   length_start : length (flatten (start_with board kind u ss)) ≡ 32 + data_length ss
   unfolding start_with flatten
   length_start =
       let body = flatten (data_lines kind ss) in
-      omega (arith, length-append (upper_line u) (name_line ++ body), length-append name_line body, length_upper, length_name, length_data_lines kind ss)
+      omega (arith, length-append (upper_line u) (name_line ++ body), length-append name_line body, length_upper u, length_name, length_data_lines kind ss)
 
   pub length_section : length (flatten (section_with board kind u ss)) ≡ section_size (data_length ss)
   unfolding section_with
@@ -51,14 +49,14 @@ module _ (board kind u : ℕ) (ss : List Store) where
       → three ≡ put_lines two (at + 32) (data_lines kind ss) → three ≡ put_lines out at (start_with board kind u ss)
   unfolding start_with put_lines
   put_start out at e f g =
-      let a : at + 16 ≡ at + length (upper_line u) = omega (arith, length_upper) in
-      let b : at + 32 ≡ at + length (upper_line u) + length name_line = omega (arith, length_upper, length_name) in
+      let a : at + 16 ≡ at + length (upper_line u) = omega (arith, length_upper u) in
+      let b : at + 32 ≡ at + length (upper_line u) + length name_line = omega (arith, length_upper u, length_name) in
       g ∙ rw (f, e, a, b) refl
 
   pub section_put : (out : List ℕ) (at : ℕ) {len m : ℕ} {one two three four : List ℕ} → len ≡ data_length ss → one ≡ put_line out at (upper_line u)
       → two ≡ put_line one (at + 16) name_line → three ≡ put_lines two (at + 32) (data_lines kind ss)
-      → four ≡ put_lines three (at + (32 + len)) (fill_lines (missing (32 + len))) → m ≡ missing (32 + len)
-      → (32 + len + (12 + m) ≡ section_size (data_length ss)) × (four ≡ put_lines out at (section_with board kind u ss))
+      → four ≡ put_lines three (at + (32 + len)) (fill_lines (missing (32 + len))) → m ≡ section_size len
+      → (m ≡ section_size (data_length ss)) × (four ≡ put_lines out at (section_with board kind u ss))
   unfolding section_with
   section_put out at r a b c d e =
       let start = put_start out at a b c in (

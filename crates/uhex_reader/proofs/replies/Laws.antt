@@ -1,20 +1,19 @@
 -- Laws of a good record of a line, one for each way that the code leaves. Assumes nothing.
 use Prim.Native.Nat.{ℕ, ◌+◌, ◌≤◌, ◌<◌}
-use mathlib.Core.Path.{◌≡◌, ap, sym, ◌∙◌}
+use mathlib.Core.Path.{◌≡◌, ap, ◌∙◌}
 use mathlib.Core.Bool.{cond}
 use mathlib.Core.List.{List}
 use lib.ListN.{length, take}
 use lib.Dec.{ltb}
-use borrow.Author.Tests.{lt-ltb, le-ltb, lt-leb, le-leb}
+use Rattle.std.specs.Prelude.{Result}
+use borrow.Author.Tests.{le-ltb, lt-leb, le-leb}
 use Rattle.laws.specs.Over.{over}
 use Rattle.laws.proofs.Tests.{split}
 use Rattle.ihex_record.specs.declared.Record.{Record}
 use Rattle.uhex_grammar.specs.declared.Answer.{Answer}
-use Rattle.uhex_grammar.specs.declared.Answer.TheVariants as answer
-use Rattle.uhex_grammar.specs.declared.Answer.TheVariants.{Outside, Stored, Passed, TooLong}
+use Rattle.uhex_grammar.specs.declared.Answer.TheVariants.{Outside, Stored, TooLong}
 use Rattle.uhex_effects.specs.declared.Reader.{Reader}
 use Rattle.uhex_effects.specs.declared.Effect.{Effect}
-use Rattle.uhex_effects.specs.declared.Effect.TheVariants.{Fails, Passes, Stores, Ends}
 use Rattle.uhex_effects.specs.Reader.{moved_to}
 use Rattle.uhex_reader.specs.declared.replies.Reply.{Reply}
 use Rattle.uhex_reader.specs.Outcome.{LineOutcome, line_outcome, reply, failed_by, failing, address_of, outside, stored_at, storing, effect_outcome, record_effect, record_outcome, bounded_outcome}
@@ -23,9 +22,6 @@ use Rattle.uhex_reader.specs.Outcome.{LineOutcome, line_outcome, reply, failed_b
 
 -- of bytes from an address on, the answer and the image
 module _ (at n : ℕ) (b img : List ℕ) where
-  pub at_outside : length img < at + n → (Outside ≡ cond (ltb (length img) (at + n)) Outside Stored) × (img ≡ stored_at at n b img)
-  at_outside h = (rw (lt-ltb (length img) (at + n) h), rw (lt-ltb (length img) (at + n) h))
-
   pub at_inside : (new : List ℕ) → at + n ≤ length img → new ≡ over img at (take n b) → (Stored ≡ cond (ltb (length img) (at + n)) Outside Stored) × (new ≡ stored_at at n b img)
   at_inside new h e = (rw (le-ltb (length img) (at + n) h), rw (le-ltb (length img) (at + n) h) e)
 
@@ -42,28 +38,7 @@ stored_by r rec d e img new a x h k f =
 
 -- ---- a good record, by its effect
 
-pub effect_fails : (r : Reader) (rec : Record) (d : List ℕ) (e : ℕ) (img : List ℕ) (a : Answer) (x : Reply) → x ≡ reply (failed_by a r) a → line_outcome x.reader x.answer img ≡ effect_outcome r rec d e img (Fails a)
-unfolding effect_outcome
-effect_fails r rec d e img a x h = ap (λ (y : Reply). line_outcome y.reader y.answer img) h
-
-pub effect_passes : (r q : Reader) (rec : Record) (d : List ℕ) (e : ℕ) (img : List ℕ) (x : Reply) → x ≡ reply (moved_to q e) Passed → line_outcome x.reader x.answer img ≡ effect_outcome r rec d e img (Passes q)
-unfolding effect_outcome
-effect_passes r q rec d e img x h = ap (λ (y : Reply). line_outcome y.reader y.answer img) h
-
-pub effect_ends : (r q : Reader) (rec : Record) (d : List ℕ) (e : ℕ) (img : List ℕ) (x : Reply) → x ≡ reply (moved_to q e) answer.Ended → line_outcome x.reader x.answer img ≡ effect_outcome r rec d e img (Ends q)
-unfolding effect_outcome
-effect_ends r q rec d e img x h = ap (λ (y : Reply). line_outcome y.reader y.answer img) h
-
-pub effect_stores : (r q : Reader) (rec : Record) (d : List ℕ) (e : ℕ) (img : List ℕ) (o : LineOutcome) → o ≡ storing q rec d e img → o ≡ effect_outcome r rec d e img (Stores q)
-unfolding effect_outcome
-effect_stores r q rec d e img o h = h
-
--- an effect, by its case
-pub performed_by : (r : Reader) (rec : Record) (d : List ℕ) (e : ℕ) (img : List ℕ) (s t : Effect) (o : LineOutcome) → s ≡ t → o ≡ effect_outcome r rec d e img t
-    → o ≡ effect_outcome r rec d e img s
-performed_by r rec d e img s t o f g = g ∙ ap (effect_outcome r rec d e img) (sym f)
-
-pub applied_by : (r : Reader) (rec : Record) (d : List ℕ) (e : ℕ) (img : List ℕ) (s : Effect) (o : LineOutcome) → s ≡ record_effect r rec d → o ≡ effect_outcome r rec d e img s
+pub applied_by : (r : Reader) (rec : Record) (d : List ℕ) (e : ℕ) (img : List ℕ) (s : Result Effect Answer) (o : LineOutcome) → s ≡ record_effect r rec d → o ≡ effect_outcome r rec d e img s
     → o ≡ record_outcome r rec d e img
 unfolding record_outcome
 applied_by r rec d e img s o f g = g ∙ ap (effect_outcome r rec d e img) f

@@ -1,8 +1,11 @@
+use Rattle.std.proofs.lemmas.Result.{err_from_is_err_and}
 use Rattle.why_causes.proofs.Laws.{header_decides, header_passes}
 use Rattle.why_causes.proofs.header_row.Goals as goal
 
-pub returns-in-Decides : goal.returns-in-Decides
-returns-in-Decides c = let m = c in header_decides _ m.field.ensures m.field-2.ensures m.field-3.ensures m.magic_row-r.ensures c.in-Decides.is
+pub returns-in_err-magic_row : goal.returns-in_err-magic_row
+returns-in_err-magic_row c =
+    let p = err_from_is_err_and c.from_residual.result c.from_residual.ensures.1 in
+    rw (p.1, p.2) (header_decides _ c.field.ensures c.field-2.ensures c.field-3.ensures c.magic_row.ensures c.in_err-magic_row.was)
 
 pub returns : goal.returns
-returns c = let m = c in header_passes _ m.field.ensures m.field-2.ensures m.field-3.ensures m.magic_row-r.ensures c.field-4.ensures c.in_default.is c.flags_row.ensures
+returns c = header_passes _ c.field.ensures c.field-2.ensures c.field-3.ensures c.magic_row.ensures c.field-4.ensures c.in_ok-magic_row.was c.flags_row.ensures

@@ -3,12 +3,11 @@ use native.Mathlib.Omega.{arith}
 use lib.Seq.{take_all}
 use Rattle.hex_digits.specs.Values.{all_by, value_in}
 use Rattle.hex_digits.proofs.pairs.Values.{all_next}
-use borrow.Author.Rules.{rules}
 use Rattle.hex_digits.proofs.decoding.all_digits.Goals as goal
 
 pub loop-i-init : goal.loop-i-init
 unfolding all_by
-loop-i-init c = (search rules, refl)
+loop-i-init c = refl
 
 pub overflow_cast-value : goal.overflow_cast-value
 overflow_cast-value c = omega (arith, c.type_inv.chars c.loop-i.i)
@@ -18,12 +17,11 @@ bounds-table-chars c = omega (arith, c.type_inv.chars c.loop-i.i)
 
 pub loop-i-preserved : goal.loop-i-preserved
 loop-i-preserved c =
-    let n = c in
-    let s = n.args in
-    let byte = c.type_inv.chars n.loop-i.i in
-    (search rules, all_next s.table.now s.chars.now n.loop-i.i n.loop-i.met c.loop-i-test.true refl (omega (arith, byte)) n.loop-i.invariant.1)
+    let s = c.args in
+    let byte = c.type_inv.chars c.loop-i.i in
+    all_next s.table.now s.chars.now c.loop-i.i c.loop-i.met c.loop-i-test.true refl (omega (arith, byte)) c.loop-i.invariant
 
 pub returns : goal.returns
 returns c =
     let s = c.args in
-    c.loop-i.invariant.1 ∙ ap (all_by (value_in s.table.now)) (take_all _ _ c.loop-i-test.false)
+    c.loop-i.invariant ∙ ap (all_by (value_in s.table.now)) (take_all _ _ c.loop-i-test.false)

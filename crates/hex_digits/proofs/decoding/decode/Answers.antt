@@ -11,5 +11,5 @@ returns c =
     let n = p in
     let s = n.args in
     let l = s.chars.now in
-    let k = n.least-e.result in
-    record { value = rw (p.pairs-good.ensures.value, c.all_digits.ensures, rest (2 * k) l, sym n.least-e.ensures) (all_parts (value_in s.table.now) (2 * k) l); bytes = p.pairs-good.ensures.bytes }
+    let k = n.min-e.result in
+    record { value = rw (p.pairs-good.ensures.value, c.all_digits.ensures, rest (2 * k) l, sym n.min-e.ensures) (all_parts (value_in s.table.now) (2 * k) l); bytes = p.pairs-good.ensures.bytes }

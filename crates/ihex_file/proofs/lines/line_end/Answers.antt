@@ -1,17 +1,13 @@
-use Rattle.ihex_file.proofs.lines.Ends.{ends_past, ends_lf, ends_text}
+use native.Mathlib.Omega.{arith}
+use Rattle.ihex_file.proofs.lines.Ends.{len_on, ends_lf, ends_text}
 use Rattle.ihex_file.proofs.lines.line_end.Goals as goal
 
-pub returns-then-text-at : goal.returns-then-text-at
-returns-then-text-at c =
-    let r = ends_past _ _ c.if-text-at.true in
-    record { value = r.0; within = r.1.0; after = r.1.1 }
+pub returns-then-text-i-eq-LF-clause-value : goal.returns-then-text-i-eq-LF-clause-value
+returns-then-text-i-eq-LF-clause-value c =
+    ends_lf c.args.text.now c.args.at c.loop-i.i c.loop-i.invariant (omega arith) (omega arith) c.if-text-i-eq-LF.true
 
-pub returns-then-found-text : goal.returns-then-found-text
-returns-then-found-text c =
-    let r = ends_lf _ _ _ c.if-text-at.false c.find-found.ensures c.if-found-text.true in
-    record { value = r.0; within = r.1.0; after = r.1.1 }
+pub loop-i-preserved : goal.loop-i-preserved
+loop-i-preserved c = omega (arith, c.loop-i.invariant, len_on c.args.text.now c.loop-i.i (omega arith) c.if-text-i-eq-LF.false)
 
-pub returns : goal.returns
-returns c =
-    let r = ends_text _ _ _ c.if-text-at.false c.find-found.ensures c.if-found-text.false in
-    record { value = r.0; within = r.1.0; after = r.1.1 }
+pub returns-clause-value : goal.returns-clause-value
+returns-clause-value c = ends_text c.args.text.now c.args.at c.loop-i.i c.loop-i.invariant (omega arith) (λ h. omega arith)

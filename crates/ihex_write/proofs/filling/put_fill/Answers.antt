@@ -2,7 +2,7 @@ use Rattle.ihex_write.proofs.filling.Filled.{put_pad, put_close}
 use Rattle.ihex_write.specs.Fill.{missing, fill_lines}
 use Rattle.ihex_write.specs.Put.{put_lines}
 use Rattle.ihex_write.proofs.Lines.{put_past}
-use Rattle.std.proofs.Common.{ℕ, sym, refl, ap, arith, rules}
+use Rattle.std.proofs.Common.{◌≡◌, ℕ, ◌+◌, ◌-◌, ◌*◌, ◌/◌, sym, ap, ◌∙◌, arith}
 use Rattle.ihex_write.proofs.filling.put_fill.Goals as goal
 
 pub returns-then-out-at : goal.returns-then-out-at
@@ -10,21 +10,18 @@ returns-then-out-at c =
     let a = c.args in
     sym (put_past a.out.now a.at (fill_lines (missing a.n)) (omega (arith, c.if-out-at.true)))
 
-pub loop-m-init : goal.loop-m-init
-loop-m-init c =
-    let x = c in
-    let a = x.args in
-    (omega (arith, c.missing_after-m.ensures), refl, ap (λ (m : ℕ). put_lines a.out.now a.at (fill_lines m)) c.missing_after-m.ensures)
-
-pub loop-m-preserved : goal.loop-m-preserved
-loop-m-preserved c =
-    let w = c.loop-m in
-    (omega arith, search rules, put_pad w.out w.place w.m c.loop-m-test.true w.invariant.2 c.put_filling.ensures)
-
-pub put_filling-requires-2 : goal.put_filling-requires-2
-put_filling-requires-2 c = omega arith
+pub loop-k-preserved : goal.loop-k-preserved
+loop-k-preserved c =
+    let w = c.loop-k in
+    put_pad w.out c.args.at w.k c.missing_after-m.result (omega arith) w.invariant c.put_filling.ensures
 
 pub returns : goal.returns
 returns c =
-    let w = c.loop-m in
-    put_close w.out w.place w.m c.loop-m-test.false w.invariant.2 c.put_filling-2.ensures
+    let a = c.args in
+    let w = c.loop-k in
+    let m = c.missing_after-m.result in
+    let pads = c.saturating_sub-pads.result / 64 in
+    let all : w.k ≡ pads = omega arith in
+    let left = rw all at w.invariant in
+    put_close w.out (a.at + 64 * pads) (m - 64 * pads) (omega arith) left c.put_filling-2.ensures
+    ∙ ap (λ (k : ℕ). put_lines a.out.now a.at (fill_lines k)) c.missing_after-m.ensures

@@ -1,10 +1,7 @@
-use Rattle.ihex_write.specs.Fill.{missing, fill_lines}
+use Rattle.ihex_write.specs.Fill.{fill_lines}
 use Rattle.ihex_write.specs.Put.{put_lines}
-use Rattle.std.proofs.Common.{◌≡◌, ◌+◌, ◌≤◌, length}
+use Rattle.std.proofs.Common.{◌≡◌, ◌+◌, ◌-◌, ◌*◌}
 use Rattle.ihex_write.proofs.filling.put_fill.Given as goal
 
-abbrev pub invariant-loop-m : goal.invariant-loop-m
-invariant-loop-m l = (l.place + l.m ≤ 9223372036854776320) × (length l.out ≡ length l.initial.out) × (put_lines l.out l.place (fill_lines l.m) ≡ put_lines l.initial.out l.at (fill_lines (missing l.n)))
-
-abbrev pub decreases-loop-m : goal.decreases-loop-m
-decreases-loop-m l = l.m
+abbrev pub invariant-loop-k : goal.invariant-loop-k
+invariant-loop-k l = put_lines l.out (l.at + 64 * l.k) (fill_lines (l.m - 64 * l.k)) ≡ put_lines l.initial.out l.at (fill_lines l.m)

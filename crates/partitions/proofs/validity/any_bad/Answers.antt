@@ -20,24 +20,22 @@ returns-then-alone_bad c =
 
 pub returns-then-k-j : goal.returns-then-k-j
 returns-then-k-j c =
-    let u = not-true _ c.if-not-unowned.true-raw in
     sym
     (wrong_hit _ _ _ _ c.loop-k-test.true
-    (wrong_link _ _ _ (link_up _ _ (sym c.unowned.ensures ∙ u) (omega (arith, c.target-j.ensures)))))
+    (wrong_link _ _ _ (link_up _ _ (sym c.unowned.ensures ∙ c.if-unowned.false) (omega (arith, c.target-j.ensures)))))
 
 pub returns-then-not-is_a : goal.returns-then-not-is_a
 returns-then-not-is_a c =
     let d = c in
     let x = d.args in
-    let u = not-true _ d.if-not-unowned.true-raw in
     let t = ap (λ (j : ℕ). is_a (entry_at x.table j)) d.target-j.ensures in
     sym
     (wrong_hit _ _ _ _ d.loop-k-test.true
     (wrong_link _ _ _
-    (link_to_b _ _ (sym d.unowned.ensures ∙ u) (sym t ∙ sym c.is_a.ensures ∙ not-true _ c.if-not-is_a.true-raw))))
+    (link_to_b _ _ (sym d.unowned.ensures ∙ d.if-unowned.false) (sym t ∙ sym c.is_a.ensures ∙ not-true _ c.if-not-is_a.true-raw))))
 
-pub loop-k-preserved-else-not-is_a : goal.loop-k-preserved-else-not-is_a
-loop-k-preserved-else-not-is_a c =
+pub loop-k-preserved : goal.loop-k-preserved
+loop-k-preserved c =
     let d = c in
     let l = d.loop-k in
     let x = d.args in
@@ -49,13 +47,13 @@ loop-k-preserved-else-not-is_a c =
       rising_more _ _ _ _ l.invariant.2,
     )
 
-pub loop-k-preserved : goal.loop-k-preserved
-loop-k-preserved c =
+pub loop-k-preserved-then-unowned : goal.loop-k-preserved-then-unowned
+loop-k-preserved-then-unowned c =
     let l = c.loop-k in (
       search rules,
       any_more _ _ l.invariant.1
           (right_entry _ _ _ (sym c.alone_bad.ensures ∙ c.if-alone_bad.false)
-          (link_none _ _ (sym c.unowned.ensures ∙ not-false _ c.if-not-unowned.false-raw))),
+          (link_none _ _ (sym c.unowned.ensures ∙ c.if-unowned.true))),
       rising_more _ _ _ _ l.invariant.2,
     )
 

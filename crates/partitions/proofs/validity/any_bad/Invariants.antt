@@ -1,4 +1,4 @@
-use Prim.Native.Nat.{◌≤◌, ◌-◌}
+use Prim.Native.Nat.{◌≤◌}
 use mathlib.Core.Path.{◌≡◌}
 use mathlib.Core.Bool.{true, false}
 use Rattle.laws.specs.Sets.{any}
@@ -9,6 +9,3 @@ use Rattle.partitions.proofs.validity.any_bad.Given as goal
 abbrev pub invariant-loop-k : goal.invariant-loop-k
 invariant-loop-k l =
     (l.k ≤ l.count) × (any l.k (wrong_entry l.table l.flash_len) ≡ false) × (l.rising ≡ true → Apart l.table l.k l.past)
-
-abbrev pub decreases-loop-k : goal.decreases-loop-k
-decreases-loop-k l = l.count - l.k

@@ -1,17 +1,11 @@
-use mathlib.Core.Path.{◌∙◌}
-use native.Mathlib.Omega.{arith}
-use lib.ListN.{length-set}
+use mathlib.Core.Path.{refl, ◌∙◌}
 use Rattle.settings_store.proofs.write.Rows.{head_put}
 use Rattle.settings_store.proofs.head_bits.Laws.{head_is}
 use Rattle.settings_store.proofs.write.put_store.Goals as goal
 
-pub bounds-out-1 : goal.bounds-out-1
-bounds-out-1 c = simp length-set (omega arith)
-
-pub shape_of-out : goal.shape_of-out
-shape_of-out c = c.write_rows.auto.out ∙ simp length-set
-
 pub returns : goal.returns
 returns c =
     let start = c in
-    c.write_rows.ensures ∙ head_put start.args.s start.args.out.now _ start.requires.1 (head_is start.args.s c.head_of-x.ensures.value c.any_no_restart.ensures)
+    let a = start.args in
+    c.write_rows.ensures
+    ∙ head_put a.s a.out.now _ start.requires.1 (head_is a.s c.head_of-x.ensures c.any_no_restart.ensures) c.to_be_bytes.ensures c.copy_from_slice.ensures.after refl

@@ -1,9 +1,10 @@
+use mathlib.Core.Path.{sym, ◌∙◌}
 use native.Mathlib.Omega.{arith}
 use Rattle.store_entry.proofs.Parts.{stray_other, stray_part}
 use Rattle.store_entry.proofs.stray.stray.Goals as goal
 
-pub returns-then-bytes-ne-ENTRY : goal.returns-then-bytes-ne-ENTRY
-returns-then-bytes-ne-ENTRY c = stray_other _ _ (λ e. omega (arith, e))
+pub returns-in-None : goal.returns-in-None
+returns-in-None c = stray_other _ (sym c.in-None.is ∙ c.read.ensures) _
 
-pub returns : goal.returns
-returns c = stray_part _ (omega arith) (λ i. omega (arith, c.type_inv.bytes i)) c.read.ensures _ c.stray_of.ensures
+pub returns-in-Some : goal.returns-in-Some
+returns-in-Some c = stray_part _ (λ i. omega (arith, c.type_inv.bytes i)) (sym c.in-Some.is ∙ c.read.ensures) _ c.stray_of.ensures

@@ -5,16 +5,16 @@ use Rattle.trace_counts.specs.Counts.{is_missing}
 use Rattle.trace_counts.proofs.gaps.first_missing.Goals as goal
 
 pub loop-k-init : goal.loop-k-init
-loop-k-init c = (search rules, any_zero _)
+loop-k-init c = any_zero _
 
 pub returns-then-not-marked : goal.returns-then-not-marked
 returns-then-not-marked c =
-    sym (least_is (is_missing c.args.map.now) _ _ c.loop-k-test.true c.loop-k.invariant.1 (ap not (sym c.marked.ensures) ∙ search rules))
+    sym (least_is (is_missing c.args.map.now) _ _ c.loop-k-test.true c.loop-k.invariant (ap not (sym c.marked.ensures) ∙ search rules))
 
 pub loop-k-preserved : goal.loop-k-preserved
 loop-k-preserved c =
-    (search rules, any_more (is_missing c.args.map.now) _ c.loop-k.invariant.1 (ap not (sym c.marked.ensures) ∙ search rules))
+    any_more (is_missing c.args.map.now) _ c.loop-k.invariant (ap not (sym c.marked.ensures) ∙ search rules)
 
 pub returns : goal.returns
 returns c =
-    sym (least_none (is_missing c.args.map.now) _ (subst (λ (n : ℕ). any n (is_missing c.args.map.now) ≡ false) (omega arith) c.loop-k.invariant.1))
+    sym (least_none (is_missing c.args.map.now) _ (subst (λ (n : ℕ). any n (is_missing c.args.map.now) ≡ false) (omega arith) c.loop-k.invariant))

@@ -1,10 +1,7 @@
-use Rattle.std.proofs.Common.{◌≡◌, ◌-◌, ◌≤◌, false}
+use Rattle.std.proofs.Common.{◌≡◌, false}
 use Rattle.laws.specs.Sets.{any}
 use Rattle.trace_counts.specs.Counts.{is_missing}
 use Rattle.trace_counts.proofs.gaps.first_missing.Given as goal
 
 abbrev pub invariant-loop-k : goal.invariant-loop-k
-invariant-loop-k l = (l.k ≤ l.total) × (any l.k (is_missing l.map) ≡ false)
-
-abbrev pub decreases-loop-k : goal.decreases-loop-k
-decreases-loop-k l = l.total - l.k
+invariant-loop-k l = any l.k (is_missing l.map) ≡ false

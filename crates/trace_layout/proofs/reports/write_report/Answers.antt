@@ -1,24 +1,21 @@
-use Prim.Native.Nat.{◌+◌}
-use mathlib.Core.Path.{◌∙◌}
+use mathlib.Core.Path.{ap, ◌∙◌}
 use native.Mathlib.Omega.{arith}
-use Rattle.trace_layout.proofs.reports.Words.{words_none, words_long, words_more, words_all, written_other}
-use borrow.Author.Rules.{rules}
+use Rattle.std.specs.Int.{from_bool}
+use borrow.Author.Tests.{ne_eqb}
+use Rattle.trace_layout.specs.Reports.{report_written}
+use Rattle.trace_layout.proofs.reports.Words.{words_first, words_count, words_last}
 use Rattle.trace_layout.proofs.reports.write_report.Goals as goal
 
 pub returns-then-bytes-ne-REPORT : goal.returns-then-bytes-ne-REPORT
-returns-then-bytes-ne-REPORT c = written_other _ _ c.if-bytes-ne-REPORT.true
+unfolding report_written
+returns-then-bytes-ne-REPORT c = rw (ne_eqb _ _ c.if-bytes-ne-REPORT.true)
 
 pub loop-k-init : goal.loop-k-init
-loop-k-init c = (search rules, c.if-bytes-ne-REPORT.false, c.if-bytes-ne-REPORT.false, words_none _ _)
+loop-k-init c = words_first _ _ c.if-bytes-ne-REPORT.false c.put.ensures
 
 pub loop-k-preserved : goal.loop-k-preserved
-loop-k-preserved c =
-    let a = c.args in
-    let l = c.loop-k in
-    let one =
-    c.put.ensures
-    ∙ words_more a.report a.bytes.now l.bytes l.k l.invariant.1 (omega arith) l.invariant.3 c.word.ensures in
-    (omega arith, l.invariant.1, words_long a.report a.bytes.now _ (l.k + 1) l.invariant.1 (omega arith) one, one)
+loop-k-preserved c = words_count _ _ c.if-bytes-ne-REPORT.false _ c.loop-k-test.true c.loop-k.invariant c.put-in-loop-k.ensures
 
 pub returns : goal.returns
-returns c = words_all _ _ _ _ c.loop-k.invariant.1 (omega arith) c.loop-k.invariant.3
+returns c =
+    words_last _ _ c.if-bytes-ne-REPORT.false (omega arith) c.loop-k.invariant c.put-2.ensures c.put-3.ensures (c.from.ensures ∙ ap from_bool c.is_some.ensures) c.put-4.ensures c.unwrap_or.ensures c.put-5.ensures

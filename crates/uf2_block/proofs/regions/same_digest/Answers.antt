@@ -1,7 +1,6 @@
-use mathlib.Core.Path.{refl}
-use Rattle.uf2_block.specs.Regions.{same_digest}
+use mathlib.Core.Path.{◌∙◌}
+use Rattle.uf2_block.proofs.regions.Laws.{digest_same}
 use Rattle.uf2_block.proofs.regions.same_digest.Goals as goal
 
 pub returns : goal.returns
-unfolding same_digest
-returns c = refl
+returns c = c.eq.ensures ∙ digest_same _ _

@@ -1,6 +1,7 @@
 use mathlib.Core.Path.{sym, ◌∙◌}
 use native.Mathlib.Omega.{arith}
-use Rattle.uf2_block.proofs.words.Laws.{field_in_lem, field_past}
+use Rattle.laws.proofs.BytesLaws.{read_four}
+use Rattle.uf2_block.proofs.words.Laws.{field_number, field_past}
 use Rattle.uf2_block.proofs.words.field.Goals as goal
 
 pub returns-then-bytes-lt4 : goal.returns-then-bytes-lt4
@@ -10,4 +11,4 @@ pub returns-then-bytes-at : goal.returns-then-bytes-at
 returns-then-bytes-at c = sym (field_past _ _ (omega arith))
 
 pub returns : goal.returns
-returns c = c.joined.ensures ∙ sym (field_in_lem _ _ (omega arith))
+returns c = c.from_le_bytes.ensures ∙ read_four _ _ ∙ sym (field_number _ _ (omega arith))

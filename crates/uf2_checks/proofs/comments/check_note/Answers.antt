@@ -1,10 +1,10 @@
 use Rattle.uf2_checks.specs.Screen.{note_found}
 use Rattle.uf2_checks.proofs.comments.check_note.Goals as goal
 
-pub returns-in-Nowhere : goal.returns-in-Nowhere
+pub returns-in-None : goal.returns-in-None
 unfolding note_found
-returns-in-Nowhere c = rw c.in-Nowhere.is
+returns-in-None c = rw c.in-None.is
 
-pub returns-in-At : goal.returns-in-At
+pub returns-in-Some : goal.returns-in-Some
 unfolding note_found
-returns-in-At c = rw c.in-At.is c.note.ensures
+returns-in-Some c = rw c.in-Some.is c.note.ensures

@@ -1,8 +1,9 @@
 use mathlib.Core.Path.{ap, ◌∙◌}
 use native.Mathlib.Omega.{arith}
 use Rattle.laws.specs.Numbered.{numbered}
-use Rattle.uf2_tags.specs.declared.one_tag.Answer.TheVariants.{Tag as a-tag}
-use Rattle.uf2_tags.specs.Tag.{answer_number}
+use Rattle.std.specs.Prelude.{Ok, Some}
+use Rattle.uf2_tags.specs.declared.one_tag.Tag.{Tag}
+use Rattle.uf2_tags.specs.Tag.{Answer, answer_number}
 use Rattle.uf2_tags.proofs.one_tag.Laws.{sized_end, sized_typed, sized_small, sized_past, sized_tag}
 use Rattle.uf2_tags.proofs.one_tag.tag_sized.Goals as goal
 
@@ -19,4 +20,6 @@ pub returns-then-end-at : goal.returns-then-end-at
 returns-then-end-at c = ap (numbered answer_number) (sized_past _ _ _ _ (omega arith) (omega arith) (omega arith))
 
 pub returns : goal.returns
-returns c = ap (numbered answer_number) (ap a-tag c.made.ensures ∙ sized_tag _ _ _ _ (omega arith) (omega arith) (omega arith))
+returns c =
+    let tagged : Tag → Answer = λ t. Ok (Some t) in
+    ap (numbered answer_number) (ap tagged c.made.ensures ∙ sized_tag _ _ _ _ (omega arith) (omega arith) (omega arith))

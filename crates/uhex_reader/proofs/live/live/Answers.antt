@@ -13,13 +13,14 @@ returns-then-offset-gt-FILE c = live_too_long _ _ _ _ (omega arith) (line_fails 
 pub returns-then-offset-line : goal.returns-then-offset-line
 returns-then-offset-line c = live_too_long _ _ _ _ (omega arith) (line_fails _ _ _ _ c.failing-then-offset-line.ensures)
 
-pub returns-in_default : goal.returns-in_default
-returns-in_default c = live_refused _ _ _ _ _ _ (omega arith) c.read-read.ensures.value c.in_default.not-Good c.refusal.ensures.value (line_fails _ _ _ _ c.failing-in_default.ensures)
-
-pub returns : goal.returns
+pub returns-in-Ok : goal.returns-in-Ok
 unfolding parsed_line
-returns c =
+returns-in-Ok c =
     let read = c.read-read.ensures.value in
-    let told = c.in-Good.is in
+    let told = c.in-Ok.is in
     let len = good_len _ _ (ap (λ (x : Line). x.parsed) (sym read) ∙ told) in
     live_by _ _ _ _ _ _ (omega arith) read told (c.apply.ensures ∙ bounded_fits _ _ _ _ _ len)
+
+pub returns-in-Err : goal.returns-in-Err
+returns-in-Err c =
+    live_refused _ _ _ _ _ _ _ (omega arith) c.read-read.ensures.value c.in-Err.is c.from.ensures (line_fails _ _ _ _ c.failing-in-Err.ensures)

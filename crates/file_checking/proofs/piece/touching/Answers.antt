@@ -1,4 +1,0 @@
-use Rattle.file_checking.proofs.piece.touching.Goals as goal
-
-pub returns-in-Page : goal.returns-in-Page
-returns-in-Page c = rw c.in-Page.is c.touches.ensures

@@ -1,4 +1,0 @@
-use Rattle.transfer.proofs.same_kind.Goals as goal
-
-pub returns : goal.returns
-returns c = simp (c.number.ensures, c.number-2.ensures)

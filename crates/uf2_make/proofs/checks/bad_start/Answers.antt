@@ -1,5 +1,0 @@
-use mathlib.Core.Path.{refl}
-use Rattle.uf2_make.proofs.checks.bad_start.Goals as goal
-
-pub returns : goal.returns
-returns c = refl
