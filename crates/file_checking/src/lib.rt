@@ -82,11 +82,11 @@ fn each_piece(
 }
 
 // Of a file for the flash the first piece that names a region that counts.
-#[tactic(auto, using(file_check::proofs::First::first_some, file_check::proofs::First::first_none, transfer::proofs::Laws::kinds_are), unfolding(crate::specs::Parts::guarded_by))]
+#[tactic(auto, using(file_check::proofs::First::first_some, file_check::proofs::First::first_none), unfolding(crate::specs::Parts::guarded_by))]
 fn guarded(place: Option<Place>, kind: Kind, file: &[u8]) -> Result<(), FileFault>
     ensures { result ≡ guarded_by place kind file.now }
 {
-    if kind != Kind::Flash {
+    if !transfer::same_kind(kind, Kind::Flash) {
         return Ok(());
     }
     match crate::regions::first_guarding(place, file) {

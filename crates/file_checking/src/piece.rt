@@ -29,7 +29,7 @@ fn put_start(body: Body, cells: &mut [u8], offsets: &mut [u8])
 }
 
 // What is wrong with a block that passes, beside the first piece's head and the maps.
-#[tactic(auto, using(transfer::proofs::Laws::kinds_are), unfolding(crate::specs::Pieces::Parts::beside_by))]
+#[tactic(auto, unfolding(crate::specs::Pieces::Parts::beside_by))]
 fn beside(
     head: Head,
     placed: PlacedBlock,
@@ -49,7 +49,7 @@ fn beside(
     }
     let kind = own.kind;
     let first = head.kind;
-    if kind != first {
+    if !transfer::same_kind(kind, first) {
         return Err(FileFault::OtherKind(piece.i));
     }
     if memory::bitmap::marked(numbers, placed.number as usize) {

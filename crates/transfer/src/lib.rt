@@ -144,7 +144,7 @@ impl Answer {
 }
 
 // Are the heads one? Then two blocks belong to one transfer.
-#[tactic(auto, unfolding(crate::specs::Transfer::same_head))]
+#[tactic(auto, using(crate::proofs::Laws::heads_are))]
 pub fn same_head(g: Head, h: Head) -> bool
     ensures { result ≡ same_head g h }
 {
@@ -232,7 +232,7 @@ fn go_on(run: Run, head: Head, marked: bool, deed: Deed) -> Result<Accepted, Unc
     ensures { result ≡ step_of (State.Running run) head marked deed }
 {
     let current = run.head;
-    if current != head {
+    if !same_head(current, head) {
         return Ok(accept(deed, head, 0, true, true));
     }
     if marked {

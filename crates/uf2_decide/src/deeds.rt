@@ -37,7 +37,7 @@ fn stands_at(place: Option<Place>, flash: &[u8], arrival: &[u8]) -> bool
 fn page_deed(kind: Kind, place: Option<Place>, flash: &[u8], arrival: &[u8]) -> Deed
     ensures { result ≡ page_deed (same_kind kind Kind.Flash && stands_at flash.now place arrival.now) }
 {
-    if kind != Kind::Flash {
+    if !transfer::same_kind(kind, Kind::Flash) {
         return Deed::Stores;
     }
     if stands_at(place, flash, arrival) {

@@ -13,35 +13,33 @@ pub fn is_done(transfer: Transfer) -> bool
 }
 
 // Does the block belong to the running transfer, with a number that is marked?
-#[tactic(auto, unfolding(transfer::specs::Transfer::same_head))]
 pub fn is_again(transfer: Transfer, head: Head, marked: bool) -> bool
     ensures { result ≡ is_again transfer.state head marked }
 {
     if let State::Running(run) = transfer.state {
-        (run.head == head) & marked
+        transfer::same_head(run.head, head) & marked
     } else {
         false
     }
 }
 
 // The count once the block is counted; where it begins a transfer it is the first. It may not fit 32 bits.
-#[tactic(auto, unfolding(crate::specs::Progress::raised_of, transfer::specs::Transfer::same_head))]
+#[tactic(auto, unfolding(crate::specs::Progress::raised_of))]
 pub fn raised(transfer: Transfer, head: Head) -> u64
     ensures { result ≡ raised_of transfer.state head }
 {
     match transfer.state {
-        State::Running(run) if run.head == head => run.count as u64 + 1,
+        State::Running(run) if transfer::same_head(run.head, head) => run.count as u64 + 1,
         _ => 1,
     }
 }
 
 // Does a transfer of another head run?
-#[tactic(auto, unfolding(transfer::specs::Transfer::same_head))]
 fn runs_other(transfer: Transfer, head: Head) -> bool
     ensures { result ≡ runs_other transfer.state head }
 {
     if let State::Running(run) = transfer.state {
-        run.head != head
+        !transfer::same_head(run.head, head)
     } else {
         false
     }

@@ -155,7 +155,7 @@ fn region_row(
 }
 
 // Why a block is written and not kept.
-#[tactic(auto, using(transfer::proofs::Laws::kinds_are), unfolding(crate::specs::Parts::written_part))]
+#[tactic(auto, unfolding(crate::specs::Parts::written_part))]
 fn written_row(
     flash: &[u8],
     start: usize,
@@ -170,7 +170,7 @@ fn written_row(
     if !uf2_block::has_region(arrival) {
         return not_kept(NotKept::NoRegion, count, total);
     }
-    if kind != Kind::Flash {
+    if !transfer::same_kind(kind, Kind::Flash) {
         return not_kept(NotKept::InRam, count, total);
     }
     let region = uf2_block::read_region(arrival);
