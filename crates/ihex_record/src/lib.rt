@@ -5,7 +5,7 @@ pub mod record_bytes;
 pub mod record_line;
 
 ghost use Rattle.std.specs.Prelude.{◌≡◌, ◌%◌, ◌≤◌, length};
-ghost use Rattle.ihex_record.specs.Record.{text_len, total, word_from, refused, error_number};
+ghost use Rattle.ihex_record.specs.Record.{text_len, total, word_from, refused, error_number, parsed_number};
 
 // A good record: its type, its address field, and how many bytes of data it has.
 #[derive(Clone, Copy)]
@@ -75,6 +75,16 @@ impl LineError {
             LineError::BadLength => 24,
             LineError::BadSum => 25,
         }
+    }
+}
+
+// 01's number of what a line says: of a refusal, and 0 for a good record.
+pub fn number(parsed: Result<Record, LineError>) -> u8
+    ensures { result ≡ parsed_number parsed }
+{
+    match parsed {
+        Ok(_) => 0,
+        Err(error) => error.number(),
     }
 }
 

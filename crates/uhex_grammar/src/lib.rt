@@ -7,7 +7,7 @@ ghost use Rattle.std.specs.Prelude.{◌≡◌, Err};
 ghost use Rattle.uhex_grammar.specs.Answers.{number_of, position_of, is_failure, is_kept, refusal_of};
 ghost use Rattle.uhex_grammar.specs.Boards.{no_boards, has_board, with_board, both_boards};
 
-use ihex_record::LineError;
+use ihex_record::{LineError, Record};
 
 // The answers to a line, by their numbers from 18 to 36. The names are 01's.
 #[derive(Clone, Copy)]
@@ -189,5 +189,16 @@ impl From<LineError> for Answer {
             LineError::BadLength => Answer::BadLength,
             LineError::BadSum => Answer::BadSum,
         }
+    }
+}
+
+// The same of what a line says. A good record is refused by nothing: nobody asks it, and it is told as the first refusal.
+pub fn refusal(parsed: Result<Record, LineError>) -> Answer
+    ensures value { result ≡ refusal_of parsed }
+    ensures number { number_of result ≡ number_of (refusal_of parsed) }
+{
+    match parsed {
+        Ok(_) => Answer::NoColon,
+        Err(error) => Answer::from(error),
     }
 }
