@@ -1,5 +1,6 @@
 -- The packed store of settings (02, L5), written. Assumes nothing.
-use Rattle.std.specs.Prelude.{ℕ, ◌+◌, ◌*◌, cond, not, List, ◌++◌, length, ltb, Result, Ok, Err}
+use Rattle.std.specs.Prelude.{ℕ, ◌+◌, ◌*◌, Bool, ◌&&◌, cond, not, List, ◌++◌, length, ltb, leb, Result, Ok, Err}
+use Rattle.laws.specs.Sets.{any}
 use Rattle.laws.specs.Over.{over}
 use Rattle.laws.specs.Rows.{rows}
 use Rattle.memory.specs.Flash.{flash_length}
@@ -15,6 +16,10 @@ pub use Rattle.settings_store.specs.Head.{head_widths, arch_bit}
 unfoldable pub use Rattle.settings_store.specs.Head.{no_restart_at, version_of, head_fields}
 
 -- ---- the store
+
+-- one of the first n entries of a table of 16 has "don't restart"
+abbrev pub no_restart_in : List Entry → ℕ → Bool
+no_restart_in table n = leb n 16 && any n (no_restart_at table)
 
 -- the bytes of entry k
 unfoldable pub row_at : List Entry → ℕ → List ℕ

@@ -88,7 +88,7 @@ fn read_head(b: &[u8], x: u16, flash_len: usize) -> Result<Settings, StoreError>
     let Some(table) = scan(b, version, n) else {
         return Err(StoreError::BadBits);
     };
-    if (x % 4 != 0) | ((version == 2) & !crate::write::any_no_restart(table, n)) {
+    if (x % 4 != 0) | ((version == 2) & !crate::write::no_restart_in(table, n)) {
         return Err(StoreError::BadBits);
     }
     let settings = settings_of(x, table);
@@ -96,6 +96,16 @@ fn read_head(b: &[u8], x: u16, flash_len: usize) -> Result<Settings, StoreError>
         return Err(StoreError::BadSettings);
     }
     Ok(settings)
+}
+
+// The number of a refusal, and 0 for settings that are read.
+pub fn number(read: Result<Settings, StoreError>) -> u8
+    ensures { result ≡ read_number read }
+{
+    match read {
+        Ok(_) => 0,
+        Err(error) => error.number(),
+    }
 }
 
 // The settings that a store holds, for a flash of that length.

@@ -6,9 +6,11 @@ ghost use Rattle.laws.specs.Over.{over};
 ghost use Rattle.laws.specs.Rows.{rows};
 ghost use Rattle.settings_store.specs.Written.{
   no_restart_at,
+  no_restart_in,
   row_at,
   store_of,
   store_number,
+  answer_number,
   write_number,
   write_call,
   write_of,
@@ -42,9 +44,19 @@ impl StoreError {
     }
 }
 
+// The number of a refusal, and 0 for settings that are written.
+pub fn number(written: Result<(), StoreError>) -> u8
+    ensures { result ≡ answer_number written }
+{
+    match written {
+        Ok(()) => 0,
+        Err(error) => error.number(),
+    }
+}
+
 // Has one of the first n entries "don't restart"?
 #[tactic(auto, using(crate::proofs::write::Searches::any_first, crate::proofs::write::Searches::any_next), unfolding(crate::specs::Written::no_restart_at))]
-pub(crate) fn any_no_restart(table: [Entry; Settings::ENTRIES], n: usize) -> bool
+fn any_no_restart(table: [Entry; Settings::ENTRIES], n: usize) -> bool
     requires { n ≤ 16 }
     ensures { result ≡ any n (no_restart_at table) }
 {
@@ -53,6 +65,16 @@ pub(crate) fn any_no_restart(table: [Entry; Settings::ENTRIES], n: usize) -> boo
         found = found | table[k].no_restart;
     }
     found
+}
+
+// Has one of the first n entries of a table of 16 "don't restart"?
+pub fn no_restart_in(table: [Entry; Settings::ENTRIES], n: usize) -> bool
+    ensures { result ≡ no_restart_in table n }
+{
+    if Settings::ENTRIES < n {
+        return false;
+    }
+    any_no_restart(table, n)
 }
 
 // Writes the used entries, from byte 2 on.

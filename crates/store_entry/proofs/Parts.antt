@@ -12,7 +12,7 @@ use Rattle.partitions.specs.declared.Entry.{Entry}
 use Rattle.partitions.specs.Settings.{blank_entry}
 use Rattle.laws.specs.Packing.{octets, fields_of, Fit, none, one}
 use Rattle.store_entry.specs.declared.chunk_bits.Chunks.{Chunks}
-use Rattle.store_entry.specs.Chunks.{chunks_of, chunks_in}
+use Rattle.store_entry.specs.Chunks.{chunks_of, entry_chunks}
 use Rattle.store_entry.specs.EntryBits.{entry_widths, entry_from, stray_from, entry_in, stray_in}
 use Rattle.store_entry.specs.Fields.{chunk_fields}
 use Rattle.store_entry.proofs.ReadBack.{entry_fields_lem}
@@ -29,26 +29,26 @@ part_fit n b e h = rw (← e) (bytes_fit b h)
 -- ---- a part
 
 module _ (b : List ℕ) where
-  read_none : None ≡ chunks_in b → eqb (length b) 22 ≡ false
-  unfolding chunks_in
+  read_none : None ≡ entry_chunks b → eqb (length b) 22 ≡ false
+  unfolding entry_chunks
   read_none h = split (eqb (length b) 22) (λ t. let z = rw t at h in cc) (λ f. f)
 
-  read_some : {c : Chunks} → Some c ≡ chunks_in b → (eqb (length b) 22 ≡ true) × (c ≡ chunks_of b)
-  unfolding chunks_in
+  read_some : {c : Chunks} → Some c ≡ entry_chunks b → (eqb (length b) 22 ≡ true) × (c ≡ chunks_of b)
+  unfolding entry_chunks
   read_some {c} h =
       split (eqb (length b) 22)
       (λ t. let z = rw t at h in (t, cc))
       (λ f. let z = rw f at h in cc)
 
-  pub entry_other : None ≡ chunks_in b → {e : Entry} → e ≡ blank_entry → e ≡ entry_in b
+  pub entry_other : None ≡ entry_chunks b → {e : Entry} → e ≡ blank_entry → e ≡ entry_in b
   unfolding entry_in
   entry_other h {e} q = q ∙ rw (read_none h)
 
-  pub stray_other : None ≡ chunks_in b → (version : ℕ) → true ≡ stray_in version b
+  pub stray_other : None ≡ entry_chunks b → (version : ℕ) → true ≡ stray_in version b
   unfolding stray_in
   stray_other h version = rw (read_none h)
 
-  module _ (low : (i : ℕ) → get_or b i 0 < 256) {c : Chunks} (k : Some c ≡ chunks_in b) where
+  module _ (low : (i : ℕ) → get_or b i 0 < 256) {c : Chunks} (k : Some c ≡ entry_chunks b) where
     whole : eqb (length b) 22 ≡ true
     whole = (read_some k).0
 

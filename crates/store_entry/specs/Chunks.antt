@@ -22,8 +22,12 @@ chunks_of bs =
     }
 
 -- of 22 bytes; of another length, none
-unfoldable pub chunks_in : List ℕ → Option Chunks
-chunks_in b = cond (eqb (length b) 22) (Some (chunks_of b)) None
+unfoldable pub entry_chunks : List ℕ → Option Chunks
+entry_chunks b = cond (eqb (length b) 22) (Some (chunks_of b)) None
+
+-- of 22 bytes; of another length, zeros
+unfoldable pub chunks_in : List ℕ → Chunks
+chunks_in b = cond (eqb (length b) 22) (chunks_of b) (record { h = 0; u = 0; v = 0; w = 0; x = 0; tail = 0 })
 
 -- n bytes, joined to a number
 pub record Joined (n : ℕ) (bs : List ℕ) (x : ℕ) : Type 0 where

@@ -1,7 +1,7 @@
 // The 22 bytes of an entry of the packed store as six larger fields: what stands before the user families, the families, and the last six bits.
 ghost use Rattle.std.specs.Prelude.{◌≡◌, [], ◌∷◌, ◌+◌, ◌*◌, ◌/◌, ◌<◌, ◌^◌, ◌%◌, length};
 ghost use Rattle.std.specs.Int.{w32, to_be_bytes};
-ghost use Rattle.store_entry.specs.Chunks.{Joined, chunk_bytes, chunks_of, chunks_in, regrouped};
+ghost use Rattle.store_entry.specs.Chunks.{Joined, chunk_bytes, chunks_of, entry_chunks, chunks_in, regrouped};
 
 // The bytes of an entry.
 pub const ENTRY: usize = 22;
@@ -35,23 +35,28 @@ fn bytes_of(c: Chunks) -> [u8; 22]
     let e = middle(c.v, c.w);
     let f = middle(c.w, c.x);
     let last = (c.x % 4) as u8 * 64 + c.tail;
-    let mut bytes = [last; ENTRY];
+    // filled with zeros, as boards have a function for that; another value asks for one more
+    let mut bytes = [0u8; ENTRY];
     bytes[..5].copy_from_slice(&a[3..]);
     bytes[5..9].copy_from_slice(&b);
     bytes[9..13].copy_from_slice(&d);
     bytes[13..17].copy_from_slice(&e);
     bytes[17..21].copy_from_slice(&f);
+    bytes[21..].copy_from_slice(&[last]);
     bytes
 }
 
 // The bytes of six fields. A number that is too large for its field is kept to the field's width.
-pub fn write(c: Chunks) -> [u8; 22]
-    ensures { result ≡ chunk_bytes (c.h % 4398046511104) c.u c.v c.w c.x (c.tail % 64) }
+pub fn write(h: u64, s: u32, t: u32, y: u32, z: u32, tail: u64) -> [u8; 22]
+    ensures { result ≡ chunk_bytes (h % 4398046511104) s t y z (tail % 64) }
 {
     bytes_of(Chunks {
-        h: c.h % 4398046511104,
-        tail: c.tail % 64,
-        ..c
+        h: h % 4398046511104,
+        u: s,
+        v: t,
+        w: y,
+        x: z,
+        tail: (tail % 64) as u8,
     })
 }
 
@@ -95,12 +100,30 @@ fn chunks_in(s: &[u8]) -> Chunks
 }
 
 // The fields of 22 bytes; of another length, none.
-#[tactic(auto, unfolding(crate::specs::Chunks::chunks_in))]
-pub fn read(bytes: &[u8]) -> Option<Chunks>
-    ensures { result ≡ chunks_in bytes.now }
+#[tactic(auto, unfolding(crate::specs::Chunks::entry_chunks))]
+pub fn read_entry(bytes: &[u8]) -> Option<Chunks>
+    ensures { result ≡ entry_chunks bytes.now }
 {
     if bytes.len() != ENTRY {
         return None;
     }
     Some(chunks_in(bytes))
+}
+
+// The same, and of another length zeros.
+#[tactic(auto, unfolding(crate::specs::Chunks::chunks_in))]
+pub fn read(bytes: &[u8]) -> Chunks
+    ensures { result ≡ chunks_in bytes.now }
+{
+    if bytes.len() != ENTRY {
+        return Chunks {
+            h: 0,
+            u: 0,
+            v: 0,
+            w: 0,
+            x: 0,
+            tail: 0,
+        };
+    }
+    chunks_in(bytes)
 }

@@ -49,7 +49,7 @@ fn entry_of(c: Chunks) -> Entry
 pub fn unpack(bytes: &[u8]) -> Entry
     ensures { result ≡ entry_in bytes.now }
 {
-    match crate::chunk_bits::read(bytes) {
+    match crate::chunk_bits::read_entry(bytes) {
         Some(c) => entry_of(c),
         None => Entry::blank(),
     }

@@ -26,7 +26,7 @@ fn stray_of(version: u8, c: Chunks) -> bool
 pub fn stray(bytes: &[u8], version: u8) -> bool
     ensures { result ≡ stray_in version bytes.now }
 {
-    match crate::chunk_bits::read(bytes) {
+    match crate::chunk_bits::read_entry(bytes) {
         Some(c) => stray_of(version, c),
         None => true,
     }

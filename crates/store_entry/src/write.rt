@@ -2,7 +2,6 @@
 ghost use Rattle.std.specs.Prelude.{◌≡◌, ◌+◌, ◌*◌, ◌<◌};
 ghost use Rattle.store_entry.specs.EntryBits.{slot, packed_entry};
 
-use crate::chunk_bits::Chunks;
 use partitions::Entry;
 
 // User family k, or 0 in a slot that is not used.
@@ -55,13 +54,13 @@ pub fn pack(e: Entry) -> [u8; 22]
         u64::from(e.not_bootable_riscv),
         users % 8,
     );
-    crate::chunk_bits::write(Chunks {
-        h: h * 512 + m,
-        u: slot_of(e, 0),
-        v: slot_of(e, 1),
-        w: slot_of(e, 2),
-        x: slot_of(e, 3),
+    crate::chunk_bits::write(
+        h * 512 + m,
+        slot_of(e, 0),
+        slot_of(e, 1),
+        slot_of(e, 2),
+        slot_of(e, 3),
         // "don't restart", and five zeros
-        tail: u8::from(e.no_restart) * 32,
-    })
+        u64::from(e.no_restart) * 32,
+    )
 }

@@ -5,8 +5,10 @@ ghost use Rattle.std.specs.Prelude.{◌≡◌};
 ghost use Rattle.storeapi.specs.Calls.{store_call, told_of, store_read_call, store_write_call};
 
 use partitions::Settings;
-use settings_layout::SETTINGS;
 use settings_store::write::StoreError;
+
+// The bytes of settings.
+const SETTINGS: usize = settings_layout::SETTINGS;
 
 // Writes the settings that were read. A refusal leaves the bytes.
 fn tell(read: Result<Settings, StoreError>, settings: &mut [u8]) -> u32
@@ -39,8 +41,6 @@ pub extern "C" fn uf2_store_write(settings: &[u8], flash_len: usize, store: &mut
     ensures { store_call result store.new ≡ store_write_call settings.now flash_len store.old }
 {
     let s = settings_layout::read_settings(settings);
-    match settings_store::write::write(s, flash_len, store) {
-        Ok(()) => 0,
-        Err(e) => u32::from(e.number()),
-    }
+    let written = settings_store::write::write(s, flash_len, store);
+    u32::from(settings_store::write::number(written))
 }

@@ -1,7 +1,7 @@
 use mathlib.Core.Path.{refl, sym, ◌∙◌}
 use native.Mathlib.Omega.{arith}
 use Rattle.settings_store.proofs.Cases.{scanned_none, scanned_some, tested, read_40, read_many, read_41, read_42_entry, read_42, read_2, read_good}
-use Rattle.settings_store.proofs.write.Cases.{is_off, is_on_lem}
+use Rattle.settings_store.proofs.write.Cases.{is_off, is_on_lem, no_restart_few}
 use Rattle.settings_store.proofs.read_head.Goals as goal
 
 pub returns-then-not-version : goal.returns-then-not-version
@@ -28,16 +28,16 @@ pub returns-then-x-version : goal.returns-then-x-version
 returns-then-x-version c =
     let a = c.args in
     let t = scanned_some _ _ c.scan.ensures c.in-Some.is in
-    read_42 a.b.now a.flash_len a.x c.if-not-version.false-raw (omega arith) (omega arith) t.1 (sym t.0) c.any_no_restart.ensures (tested a.x _ ∙ c.if-x-version.true)
+    read_42 a.b.now a.flash_len a.x c.if-not-version.false-raw (omega arith) (omega arith) t.1 (sym t.0) (c.no_restart_in.ensures ∙ no_restart_few _ _ (omega arith)) (tested a.x _ ∙ c.if-x-version.true)
 
 pub returns-then-not-good : goal.returns-then-not-good
 returns-then-not-good c =
     let a = c.args in
     let t = scanned_some _ _ c.scan.ensures c.in-Some.is in
-    read_2 a.b.now a.flash_len a.x c.if-not-version.false-raw (omega arith) (omega arith) t.1 (sym t.0) c.any_no_restart.ensures (tested a.x _ ∙ c.if-x-version.false) c.settings_of-settings.ensures (is_off _ c.good.ensures c.if-not-good.true-raw)
+    read_2 a.b.now a.flash_len a.x c.if-not-version.false-raw (omega arith) (omega arith) t.1 (sym t.0) (c.no_restart_in.ensures ∙ no_restart_few _ _ (omega arith)) (tested a.x _ ∙ c.if-x-version.false) c.settings_of-settings.ensures (is_off _ c.good.ensures c.if-not-good.true-raw)
 
 pub returns : goal.returns
 returns c =
     let a = c.args in
     let t = scanned_some _ _ c.scan.ensures c.in-Some.is in
-    read_good a.b.now a.flash_len a.x c.if-not-version.false-raw (omega arith) (omega arith) t.1 (sym t.0) c.any_no_restart.ensures (tested a.x _ ∙ c.if-x-version.false) c.settings_of-settings.ensures (is_on_lem _ c.good.ensures c.if-not-good.false-raw)
+    read_good a.b.now a.flash_len a.x c.if-not-version.false-raw (omega arith) (omega arith) t.1 (sym t.0) (c.no_restart_in.ensures ∙ no_restart_few _ _ (omega arith)) (tested a.x _ ∙ c.if-x-version.false) c.settings_of-settings.ensures (is_on_lem _ c.good.ensures c.if-not-good.false-raw)

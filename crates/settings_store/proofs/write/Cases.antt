@@ -1,17 +1,19 @@
--- Each case of `write_of`, from the facts that lead to it. Assumes nothing.
-use mathlib.Core.Path.{◌≡◌, sym}
+-- Each case of `write_of` and of `no_restart_in`, from the facts that lead to it. Assumes nothing.
+use mathlib.Core.Path.{◌≡◌, refl, sym}
 use mathlib.Core.Bool.{Bool, true, false, not, true≢false}
 use mathlib.Core.List.{List}
 use Rattle.std.specs.Prelude.{Ok, Err}
 use Prim.Native.Nat.{ℕ, ◌+◌, ◌*◌, ◌<◌, ◌≤◌}
 use lib.ListN.{length}
-use borrow.Author.Tests.{lt-ltb, le-ltb}
+use borrow.Author.Tests.{lt-ltb, le-ltb, le-leb, lt-leb}
+use Rattle.laws.specs.Sets.{any}
 use Rattle.laws.specs.Over.{over}
 use Rattle.memory.specs.Flash.{flash_length}
+use Rattle.partitions.specs.declared.Entry.{Entry}
 use Rattle.partitions.specs.declared.Settings.{Settings}
 use Rattle.partitions.specs.Settings.{good_settings}
 use Rattle.settings_store.specs.declared.write.StoreError.TheVariants.{BadBuffers, BadSettings, BadLength}
-use Rattle.settings_store.specs.Written.{store_of, write_call, write_of}
+use Rattle.settings_store.specs.Written.{no_restart_at, no_restart_in, store_of, write_call, write_of}
 
 -- a test whose denial decides
 pub is_off : (a : Bool) {b : Bool} → a ≡ b → not a ≡ true → b ≡ false
@@ -21,6 +23,15 @@ is_off false e h = sym e
 pub is_on_lem : (a : Bool) {b : Bool} → a ≡ b → not a ≡ false → b ≡ true
 is_on_lem true e h = sym e
 is_on_lem false e h = absurd (true≢false h)
+
+-- ---- "don't restart" in a table
+
+module _ (table : List Entry) (n : ℕ) where
+  pub no_restart_few : n ≤ 16 → no_restart_in table n ≡ any n (no_restart_at table)
+  no_restart_few h = rw (le-leb n 16 h) refl
+
+  pub no_restart_many : 16 < n → no_restart_in table n ≡ false
+  no_restart_many h = rw (lt-leb n 16 h) refl
 
 -- ---- writing
 

@@ -12,7 +12,7 @@ use Rattle.laws.specs.Packing.{total, octets, Fit, none, one}
 use Rattle.laws.proofs.Widths.{fields_are, packed_lt}
 use Rattle.laws.proofs.Groups.{Coarse, done, group, solo, pair, coarse_packed}
 use Rattle.store_entry.specs.declared.chunk_bits.Chunks.{Chunks}
-use Rattle.store_entry.specs.Chunks.{Joined, chunk_widths, chunk_bytes, chunks_of, chunks_in, regrouped}
+use Rattle.store_entry.specs.Chunks.{Joined, chunk_widths, chunk_bytes, chunks_of, entry_chunks, chunks_in, regrouped}
 use Rattle.store_entry.proofs.chunk_bits.Groups.{fine, grouped, computes}
 
 -- ---- bytes one by one
@@ -82,11 +82,19 @@ joined_5 j = rw (← j.number) (packed_lt j.fit)
 
 -- ---- every byte string, and every number
 
-pub read_whole : (b : List ℕ) → length b ≡ 22 → chunks_in b ≡ Some (chunks_of b)
+pub entry_whole : (b : List ℕ) → length b ≡ 22 → entry_chunks b ≡ Some (chunks_of b)
+unfolding entry_chunks
+entry_whole b e = rw (eq-eqb (length b) 22 e) refl
+
+pub entry_none : (b : List ℕ) → length b ≢ 22 → None ≡ entry_chunks b
+unfolding entry_chunks
+entry_none b n = rw (ne_eqb (length b) 22 n) refl
+
+pub read_whole : (b : List ℕ) → length b ≡ 22 → chunks_in b ≡ chunks_of b
 unfolding chunks_in
 read_whole b e = rw (eq-eqb (length b) 22 e) refl
 
-pub read_other : (b : List ℕ) → length b ≢ 22 → None ≡ chunks_in b
+pub read_other : (b : List ℕ) → length b ≢ 22 → record { h = 0; u = 0; v = 0; w = 0; x = 0; tail = 0 } ≡ chunks_in b
 unfolding chunks_in
 read_other b n = rw (ne_eqb (length b) 22 n) refl
 

@@ -12,6 +12,7 @@ returns c =
       c.copy_from_slice-3.ensures.after,
       c.copy_from_slice-4.ensures.after,
       c.copy_from_slice-5.ensures.after,
+      c.copy_from_slice-6.ensures.after,
       c.to_be_bytes-a.ensures,
       c.middle-b.ensures,
       c.middle-d.ensures,
