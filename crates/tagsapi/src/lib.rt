@@ -21,6 +21,7 @@ fn write(bytes: &mut [u8], kind: u32, start: u32, len: u32, next: u32)
 }
 
 // Writes the tag that was found.
+#[inline(always)]
 fn tell(answer: Answer, tag: &mut [u8]) -> u32
     requires tag_len { length tag.old ≡ 16 }
     requires low { Low answer }

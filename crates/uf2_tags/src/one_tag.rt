@@ -78,6 +78,7 @@ fn made(size: u8, kind: u32, at: u16) -> Tag
 }
 
 // What a size and a type at a place say, in a room that ends at `end`.
+#[inline(always)]
 pub fn tag_sized(size: u8, kind: u32, at: u16, end: u16) -> Answer
     ensures { numbered answer_number result ≡ numbered answer_number (sized size kind at end) }
 {

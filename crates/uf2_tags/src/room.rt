@@ -50,6 +50,7 @@ fn room_end(block: &[u8]) -> usize
 }
 
 // What stands at a place of the room.
+#[inline(always)]
 fn tag_in(block: &[u8], at: usize, end: usize) -> Answer
     requires { (length block.now ≡ 512) × (at + 4 ≤ end) × (end ≤ 508) }
     ensures { result ≡ sized (get_or block.now at 0) (kind_at block.now at) at end }
@@ -62,6 +63,7 @@ fn tag_in(block: &[u8], at: usize, end: usize) -> Answer
 }
 
 // What a call answers at a place of a block that may have tags.
+#[inline(always)]
 fn stands_at(block: &[u8], at: usize) -> Answer
     requires { length block.now ≡ 512 }
     ensures { result ≡ stands_at block.now at }
@@ -78,6 +80,8 @@ fn stands_at(block: &[u8], at: usize) -> Answer
 }
 
 // What a call answers at a place of a block.
+// Inlined, and what it asks too: an answer that lies in memory is filled with zeros first, by a function that a board's library would have to call.
+#[inline(always)]
 pub fn tag_at(block: &[u8], at: usize) -> Answer
     ensures { numbered answer_number result ≡ numbered answer_number (tag_at block.now at) }
 {
