@@ -116,6 +116,15 @@ module _ (n : Lengths) (h : Head) (f total : ℕ) {lent : Bool} (e : lent ≡ is
   pub own_other : Own && lent ≡ false → own_kind n h f total ≡ Flash
   own_other q = ap (λ (c : Bool). cond c h.kind Flash) (ap (λ (x : Bool). Own && x) (sym e) ∙ q)
 
+-- "any other is flash": one to a transfer that is Idle or Done
+pub note_idle : (n : Lengths) (b : Block) → note_kind n Idle b ≡ Flash
+unfolding note_kind
+note_idle n b = refl
+
+pub note_done : (n : Lengths) (g : Head) (b : Block) → note_kind n (Done g) b ≡ Flash
+unfolding note_kind
+note_done n g b = refl
+
 -- ---- a block
 
 module _ (r : Rooms) (n : Lengths) (t : State) (b : Block) where
