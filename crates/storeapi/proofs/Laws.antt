@@ -6,20 +6,11 @@ use mathlib.Core.List.{List}
 use lib.ListN.{length}
 use borrow.Author.Tests.{eq-eqb, ne_eqb}
 use Rattle.partitions.specs.declared.Settings.{Settings}
-use Rattle.settings_layout.specs.Layout.{settings_from, with_settings}
-use Rattle.std.specs.Prelude.{Result, Ok, Err}
+use Rattle.settings_layout.specs.Layout.{settings_from}
+use Rattle.std.specs.Prelude.{Result}
 use Rattle.settings_store.specs.declared.write.StoreError.{StoreError}
-use Rattle.settings_store.specs.Store.{store_number, read_of, write_call, answer_number, write_of}
-use Rattle.storeapi.specs.Calls.{StoreCall, store_call, kept_settings, told_of, store_read_call, written_call, store_write_call}
-
-module _ (l : List ℕ) {r : Result Settings StoreError} where
-  pub told_settings : {s : Settings} {b : List ℕ} → r ≡ Ok s → b ≡ with_settings l s → store_call 0 b ≡ told_of l r
-  unfolding told_of kept_settings
-  told_settings h q = rw (h, q)
-
-  pub told_refusal : {x : StoreError} {n : ℕ} → r ≡ Err x → n ≡ store_number x → store_call n l ≡ told_of l r
-  unfolding told_of kept_settings
-  told_refusal h q = rw (h, q)
+use Rattle.settings_store.specs.Store.{read_of, write_call, answer_number, write_of}
+use Rattle.storeapi.specs.Calls.{StoreCall, store_call, told_of, store_read_call, written_call, store_write_call}
 
 module _ (b : List ℕ) (len : ℕ) (l : List ℕ) where
   pub read_other : length l ≢ 550 → store_call 1 l ≡ store_read_call b len l

@@ -11,6 +11,7 @@ use settings_store::write::StoreError;
 const SETTINGS: usize = settings_layout::SETTINGS;
 
 // Writes the settings that were read. A refusal leaves the bytes.
+#[tactic(auto, unfolding(crate::specs::Calls::told_of, crate::specs::Calls::kept_settings))]
 fn tell(read: Result<Settings, StoreError>, settings: &mut [u8]) -> u32
     ensures { store_call result settings.new ≡ told_of settings.old read }
 {
